@@ -1,0 +1,1 @@
+// A choice by a test, for the definitions of every other crate; there is no code.

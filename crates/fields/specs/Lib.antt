@@ -1,0 +1,6 @@
+pub mod Bytes
+pub mod Classes
+pub mod Numbers
+pub mod Accounts
+pub mod Kids
+pub mod OnTheWay

@@ -1,0 +1,45 @@
+// A field of digits as the number that it writes.
+
+ghost use mathlib.Core.Path.{_≡_};
+ghost use mathlib.Core.Bool.{true};
+ghost use Prim.Native.Nat.{_≤_};
+ghost use lib.ListN.{length};
+ghost use Rattle.fields.specs.Bytes.{every, isDigit};
+ghost use Rattle.fields.specs.Numbers.{value, numberOf};
+use super::classes::Class;
+use super::classes::all_in;
+
+pub enum Digits {
+    Number(u64),
+    NotDigits,
+}
+
+pub fn number(s: &[u8]) -> Digits
+    requires { ⌜ length (now s) ≤ 17 ⌝ }
+    ensures { λ r. ⌜ r ≡ numberOf (now (s .entry)) ⌝ }
+{
+    if !all_in(Class::Digit, s) {
+        return Digits::NotDigits;
+    }
+    Digits::Number(value_of(s))
+}
+
+fn wide(b: u8) -> u64
+    ensures { λ r. ⌜ r ≡ b ⌝ }
+{
+    b as u64
+}
+
+// The number that digits write.
+fn value_of(s: &[u8]) -> u64
+    requires { ⌜ (length (now s) ≤ 17) × (every isDigit (now s) ≡ true) ⌝ }
+    ensures { λ r. ⌜ r ≡ value (now (s .entry)) ⌝ }
+{
+    let mut n: u64 = 0;
+    let mut i = 0;
+    while i < s.len() {
+        n = n * 10 + wide(s[i] - 48);
+        i += 1;
+    }
+    n
+}

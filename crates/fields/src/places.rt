@@ -1,0 +1,62 @@
+// Fields by their positions in a record, counted from 1 as document 01 counts them.
+
+ghost use mathlib.Core.Path.{_≡_};
+ghost use Prim.Native.Nat.{_+_, _≤_};
+ghost use lib.ListN.{length};
+ghost use Rattle.fields.specs.Bytes.{every, same, part, Inside};
+ghost use Rattle.fields.specs.Classes.{inClass};
+ghost use Rattle.fields.specs.Numbers.{numberOf};
+ghost use Rattle.fields.specs.Accounts.{accountOf};
+ghost use Rattle.fields.specs.Kids.{atRight, isKid, isReference};
+use super::accounts::Account;
+use super::classes::Class;
+use super::digits::Digits;
+
+pub fn number_at(r: &[u8], from: usize, to: usize) -> Digits
+    requires { ⌜ Inside from to (now r) × (to ≤ from + 16) ⌝ }
+    ensures { λ d. ⌜ d ≡ numberOf (part from to (now (r .entry))) ⌝ }
+{
+    super::digits::number(&r[from - 1..to])
+}
+
+pub fn all_at(class: Class, r: &[u8], from: usize, to: usize) -> bool
+    requires { ⌜ Inside from to (now r) ⌝ }
+    ensures { λ b. ⌜ b ≡ every (inClass class) (part from to (now (r .entry))) ⌝ }
+{
+    super::classes::all_in(class, &r[from - 1..to])
+}
+
+pub fn same_at(r: &[u8], from: usize, to: usize, t: &[u8]) -> bool
+    requires { ⌜ Inside from to (now r) × (to + 1 ≡ from + length (now t)) ⌝ }
+    ensures { λ b. ⌜ b ≡ same (part from to (now (r .entry))) (now (t .entry)) ⌝ }
+{
+    super::texts::same_bytes(&r[from - 1..to], t)
+}
+
+pub fn account_at(r: &[u8], from: usize, to: usize) -> Account
+    requires { ⌜ Inside from to (now r) × (to ≡ from + 10) ⌝ }
+    ensures { λ a. ⌜ a ≡ accountOf (part from to (now (r .entry))) ⌝ }
+{
+    super::accounts::account_of(&r[from - 1..to])
+}
+
+pub fn kid_at(r: &[u8], from: usize, to: usize) -> bool
+    requires { ⌜ Inside from to (now r) ⌝ }
+    ensures { λ b. ⌜ b ≡ isKid (part from to (now (r .entry))) ⌝ }
+{
+    super::kids::kid(&r[from - 1..to])
+}
+
+pub fn kid_right_at(r: &[u8], from: usize, to: usize) -> bool
+    requires { ⌜ Inside from to (now r) ⌝ }
+    ensures { λ b. ⌜ b ≡ atRight (part from to (now (r .entry))) ⌝ }
+{
+    super::kids::kid_right(&r[from - 1..to])
+}
+
+pub fn reference_at(r: &[u8], from: usize, to: usize) -> bool
+    requires { ⌜ Inside from to (now r) × (from + 1 ≤ to) ⌝ }
+    ensures { λ b. ⌜ b ≡ isReference (part from to (now (r .entry))) ⌝ }
+{
+    super::kids::reference(&r[from - 1..to])
+}
