@@ -3,16 +3,16 @@
 use Prim.Native.Nat.{ℕ, zero, suc, _+_, _-_, _*_, _/_, _%_, _^_, _≤_, _<_}
 use mathlib.Core.Path.{_≡_, refl, ap, ap₂, sym, _∙_}
 use mathlib.Core.List.{List, [], _∷_}
-use mathlib.Core.Bool.{Bool, true, false}
+use mathlib.Core.Bool.{Bool, true, false, _&&_, and-true}
 use native.Mathlib.Numerals.{add-one}
 use native.Mathlib.Nat.{pow-suc, pow-le-pow-right, lt-of-lt-of-le, not-suc-le-zero, le-of-suc-le-suc, div-div-eq-div-mul, suc-sub-suc, sub-zero}
 use native.Mathlib.Omega.{arith}
 use lib.Dec.{lit<}
-use lib.ListN.{length, getD, drop, set, drop-of-length-le}
+use lib.ListN.{length, getD, take, drop, set, drop-of-length-le}
 use lib.Seq.{drop-cons}
 use Rattle.choice.specs.Choice.{if_then_else_}
-use Rattle.fields.specs.Bytes.{every, isDigit}
-use Rattle.fields.specs.Numbers.{valueFrom, value, numberOf, written}
+use Rattle.fields.specs.Bytes.{every, isDigit, part}
+use Rattle.fields.specs.Numbers.{valueFrom, value, numberOf, codeOf, written}
 use Rattle.fields.specs.declared.digits.Digits.{Digits}
 use Rattle.fields.specs.declared.digits.Digits.the-variants.{Number, NotDigits}
 
@@ -56,6 +56,24 @@ module _ (s : List ℕ) where
       go : (b : Bool) → every isDigit s ≡ b → every isDigit s ≡ false
       go true e = let k : Number (value s) ≡ NotDigits = sym (number-yes e) ∙ h in cc
       go false e = e
+
+-- the two bytes of a code, and the number that they write
+pub two-places : (r : List ℕ) (from : ℕ) → 1 ≤ from → from + 1 ≤ length r → part from (from + 1) r ≡ getD r (from - 1) 0 ∷ getD r from 0 ∷ []
+two-places r from h k =
+    let i = from - 1 in
+    let e : suc i ≡ from = omega arith in
+    let w : from + 1 - i ≡ 2 = omega arith in
+    ap (λ (n : ℕ). take n (drop i r)) w
+    ∙ ap (take 2) (drop-cons r i 0 (omega arith) ∙ ap (λ (t : List ℕ). getD r i 0 ∷ t) (drop-cons r (suc i) 0 (omega arith)))
+    ∙ ap (λ (n : ℕ). getD r i 0 ∷ getD r n 0 ∷ []) e
+
+pub code-yes : (a b : ℕ) → isDigit a && isDigit b ≡ true → codeOf (a ∷ b ∷ []) ≡ (a - 48) * 10 + (b - 48)
+unfolding codeOf every valueFrom
+code-yes a b h = simp (and-true, h) (omega arith)
+
+pub code-no : (a b : ℕ) → isDigit a && isDigit b ≡ false → codeOf (a ∷ b ∷ []) ≡ 100
+unfolding codeOf every
+code-no a b h = simp (and-true, h)
 
 pub written-length : (w n : ℕ) → length (written w n) ≡ w
 unfolding written

@@ -8,8 +8,8 @@ use native.Mathlib.Nat.{pow-succ', mod-eq-of-lt, one-le-pow, mul-assoc, add-mul,
 use native.Mathlib.Omega.{arith}
 use lib.Arith.{mod-mul, digits-lt, digits-div}
 use lib.Dec.{lit<}
-use lib.ListN.{length}
-use Rattle.fields.specs.Bytes.{every, isDigit}
+use lib.ListN.{length, length-take, length-drop}
+use Rattle.fields.specs.Bytes.{every, isDigit, part, Inside}
 use Rattle.fields.specs.Numbers.{valueFrom, value, numberOf, written}
 use Rattle.fields.specs.declared.digits.Digits.the-variants.{Number}
 use Rattle.fields.proofs.Tests.{and-left, and-right, and-both}
@@ -104,3 +104,11 @@ eleven-places = digit-field 11
 
 pub seventeen-places : DigitField 17
 seventeen-places = digit-field 17
+
+-- a field by its positions: how long it is, and the bound of the number in it
+pub part-length : (from to : ℕ) (r : List ℕ) → Inside from to r → length (part from to r) ≡ to + 1 - from
+part-length from to r h =
+    simp (length-take, length-drop) (omega arith)
+
+pub below-at : (from to : ℕ) (r : List ℕ) (n : ℕ) → Inside from to r → numberOf (part from to r) ≡ Number n → n < 10 ^ (to + 1 - from)
+below-at from to r n h e = digit-field (to + 1 - from) .below (part from to r) n (part-length from to r h) e

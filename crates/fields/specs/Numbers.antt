@@ -22,3 +22,7 @@ numberOf s = if every isDigit s then Number (value s) else NotDigits
 unfoldable pub written : ℕ → ℕ → List ℕ
 written zero n = []
 written (suc w) n = (48 + n / 10 ^ w % 10) ∷ written w n
+
+-- a code of two digits as a number; 100, which is no code, for other bytes
+unfoldable pub codeOf : List ℕ → ℕ
+codeOf s = if every isDigit s then value s else 100

@@ -5,11 +5,12 @@ ghost use Prim.Native.Nat.{_+_, _≤_};
 ghost use lib.ListN.{length};
 ghost use Rattle.fields.specs.Bytes.{every, same, part, Inside};
 ghost use Rattle.fields.specs.Classes.{inClass};
-ghost use Rattle.fields.specs.Numbers.{numberOf};
+ghost use Rattle.fields.specs.Numbers.{numberOf, codeOf};
 ghost use Rattle.fields.specs.Accounts.{accountOf};
 ghost use Rattle.fields.specs.Kids.{atRight, isKid, isReference};
 use super::accounts::Account;
 use super::classes::Class;
+use super::classes::in_class;
 use super::digits::Digits;
 
 pub fn number_at(r: &[u8], from: usize, to: usize) -> Digits
@@ -17,6 +18,19 @@ pub fn number_at(r: &[u8], from: usize, to: usize) -> Digits
     ensures { λ d. ⌜ d ≡ numberOf (part from to (now (r .entry))) ⌝ }
 {
     super::digits::number(&r[from - 1..to])
+}
+
+// A code of two digits as a number, or 100.
+pub fn code_at(r: &[u8], from: usize) -> u8
+    requires { ⌜ Inside from (from + 1) (now r) ⌝ }
+    ensures { λ n. ⌜ n ≡ codeOf (part from (from + 1) (now (r .entry))) ⌝ }
+{
+    let tens = r[from - 1];
+    let ones = r[from];
+    if !(in_class(Class::Digit, tens) & in_class(Class::Digit, ones)) {
+        return 100;
+    }
+    (tens - 48) * 10 + (ones - 48)
 }
 
 pub fn all_at(class: Class, r: &[u8], from: usize, to: usize) -> bool

@@ -89,6 +89,20 @@ module _ (f : Totals) (ks : List ℕ) (r : List ℕ) where
       one true e = next w ws e ∙ ap (λ (x : Bool). orElse (if x then Sound else Fault (rowNumber w) (rowField w)) (firstFault f ks r ws)) (sym e)
       one false e = stop w ws e ∙ ap (λ (x : Bool). orElse (if x then Sound else Fault (rowNumber w) (rowField w)) (firstFault f ks r ws)) (sym e)
 
+  -- a piece, and the rows behind it demanded one by one
+  pub rows-behind : (ws vs : List Row) → firstFault f ks r (ws ++ vs) ≡ inTurn (firstFault f ks r ws) vs
+  rows-behind ws vs = pieces ws vs ∙ row-by-row (firstFault f ks r ws) vs
+
+  -- a piece, and behind it a row that does not hold
+  pub cut : (ws : List Row) (w : Row) (vs : List Row) → passes f ks r w ≡ false
+      → firstFault f ks r (ws ++ (w ∷ vs)) ≡ orElse (firstFault f ks r ws) (Fault (rowNumber w) (rowField w))
+  cut ws w vs h = pieces ws (w ∷ vs) ∙ ap (orElse (firstFault f ks r ws)) (stop w vs h)
+
+  -- a piece, and behind it a row that holds
+  pub skip : (ws : List Row) (w : Row) (vs : List Row) → passes f ks r w ≡ true
+      → firstFault f ks r (ws ++ (w ∷ vs)) ≡ orElse (firstFault f ks r ws) (firstFault f ks r vs)
+  skip ws w vs h = pieces ws (w ∷ vs) ∙ ap (orElse (firstFault f ks r ws)) (next w vs h)
+
   -- the whole table demanded row by row
   pub demands : (ws : List Row) → firstFault f ks r ws ≡ inTurn Sound ws
   demands ws = row-by-row Sound ws

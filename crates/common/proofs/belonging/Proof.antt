@@ -1,0 +1,49 @@
+use mathlib.Core.Path.{sym}
+use Rattle.rules.specs.Layouts.{belongs}
+use Rattle.layout.proofs.Laws.{demands}
+use borrow.Author.Needs.{needs}
+use Rattle.common.proofs.belonging.Statement.{statement}
+use Rattle.common.proofs.belonging.Tie as tie
+use Rattle.common.proofs.belonging.Reads as reads
+use Rattle.common.proofs.belonging.Lts as lts
+use Rattle.common.proofs.code_for.Reads as code-for-reads
+use Rattle.fields.proofs.places.code_at.Reads as code-at-reads
+use Rattle.fields.proofs.places.same_at.Reads as same-at-reads
+use Rattle.layout.proofs.Finding.demand.Reads as demand-reads
+
+slice-aggregate-same-at : tie.Need-slice-aggregate-same-at
+slice-aggregate-same-at c = search needs
+
+same-at-requires : tie.Need-same-at-requires
+same-at-requires c κs = search needs
+
+demand-requires : tie.Need-demand-requires
+demand-requires c κs = search needs
+
+code-at-requires : tie.Need-code-at-requires
+code-at-requires c κs = search needs
+
+code-for-requires : tie.Need-code-for-requires
+code-for-requires c κs = search needs
+
+demand-requires-2 : tie.Need-demand-requires-2
+demand-requires-2 c κs = search needs
+
+returns : tie.Need-returns
+returns c = λ f ks.
+    let p = c .before .before .before in
+    let a = p .before .before .before .before .args in
+    simp (c .demand2 .ensures, c .before .code-for .ensures, c .before .before .code-at .ensures, p .demand .ensures, p .before .same-at .ensures)
+    (sym (demands f ks (a .r .now) (belongs (a .a) (a .r .now))))
+
+pub belonging-spec : {M : Type 1} → statement M
+belonging-spec =
+    tie.close
+    (tie.spec
+    slice-aggregate-same-at
+    same-at-requires
+    demand-requires
+    code-at-requires
+    code-for-requires
+    demand-requires-2
+    returns)

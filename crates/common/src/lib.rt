@@ -1,0 +1,67 @@
+// Fields that several record types share: where a record belongs, and what it repeats of its record 30.
+
+ghost use mathlib.Core.Path.{_≡_};
+ghost use mathlib.Core.List.{List};
+ghost use Prim.Native.Nat.{ℕ, _<_};
+ghost use lib.ListN.{length};
+ghost use Rattle.figures.specs.Figures.{transactionNumber};
+ghost use Rattle.layout.specs.Rows.{firstFault};
+ghost use Rattle.rules.specs.Codes.{codeFor};
+ghost use Rattle.rules.specs.Layouts.{belongs, sameNumber, repeats};
+use dates::Service;
+use fields::digits::Digits;
+use figures::counts::TransactionNumber;
+use figures::totals::Totals;
+use layout::Finding;
+use rules::Assignment;
+
+fn code_for(service: Service) -> u8
+    ensures { λ x. ⌜ x ≡ codeFor service ⌝ }
+{
+    match service {
+        Service::Autogiro => 1,
+        Service::Remittance => 4,
+    }
+}
+
+// A number of seven digits as a transaction's.
+pub fn numbered(n: u64) -> TransactionNumber
+    requires { ⌜ n < 10000000 ⌝ }
+    ensures { λ x. ⌜ x ≡ transactionNumber n ⌝ }
+{
+    TransactionNumber(n as u32)
+}
+
+// Fields 1 and 2 within an assignment.
+pub fn belonging(r: &[u8], a: Assignment) -> Finding
+    requires { ⌜ length (now r) ≡ 81 ⌝ }
+    ensures { λ x. ⌜ ((f : Totals) (ks : List ℕ) → x ≡ firstFault f ks (now (r .entry)) (belongs a (now (r .entry)))) ⌝ }
+{
+    let service = a.service;
+    Finding::Sound
+        .demand(fields::places::same_at(r, 1, 2, b"NY"), 7, 1)
+        .demand(fields::places::code_at(r, 3) == code_for(service), 12, 2)
+}
+
+// Field 5, the number of the transaction at hand.
+pub fn same_number(r: &[u8], a: Assignment) -> Finding
+    requires { ⌜ length (now r) ≡ 81 ⌝ }
+    ensures { λ x. ⌜ ((f : Totals) (ks : List ℕ) → x ≡ firstFault f ks (now (r .entry)) (sameNumber a (now (r .entry)))) ⌝ }
+{
+    let Digits::Number(n) = fields::places::number_at(r, 9, 15) else {
+        return Finding::Fault(8, 5);
+    };
+    let number = a.number;
+    Finding::Sound.demand(numbered(n).equals(number), 12, 5)
+}
+
+// Fields 1 to 5 of 31, 40 and 49.
+pub fn repeating(r: &[u8], a: Assignment) -> Finding
+    requires { ⌜ length (now r) ≡ 81 ⌝ }
+    ensures { λ x. ⌜ ((f : Totals) (ks : List ℕ) → x ≡ firstFault f ks (now (r .entry)) (repeats a (now (r .entry)))) ⌝ }
+{
+    let code = a.code;
+    belonging(r, a)
+        .demand(fields::places::code_at(r, 5) == code, 12, 3)
+        .or_else(same_number(r, a))
+}

@@ -1,0 +1,4 @@
+pub mod Sound
+pub mod First
+pub mod Figures
+pub mod Demand2

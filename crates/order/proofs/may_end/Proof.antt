@@ -1,0 +1,37 @@
+use Prim.Native.Nat.{ℕ}
+use mathlib.Core.Path.{ap, _∙_}
+use lib.Dec.{eqb}
+use Rattle.rules.specs.Order.{mayEnd}
+use Rattle.order.proofs.Follow.{end-is}
+use borrow.Author.Needs.{needs}
+use Rattle.order.proofs.may_end.Statement.{statement}
+use Rattle.order.proofs.may_end.Tie as tie
+use Rattle.order.proofs.may_end.Reads as reads
+use Rattle.order.proofs.may_end.Lts as lts
+use Rattle.order.proofs.may_follow.Reads as may-follow-reads
+use Rattle.order.proofs.number_of.Reads as number-of-reads
+
+enum-told : tie.Need-enum-told
+enum-told c = search needs
+
+number-of-requires : tie.Need-number-of-requires
+number-of-requires c κs = search needs
+
+enum-told-2 : tie.Need-enum-told-2
+enum-told-2 c = search needs
+
+may-follow-requires : tie.Need-may-follow-requires
+may-follow-requires c κs = search needs
+
+returns : tie.Need-returns
+unfolding mayEnd
+returns c = rw (c .before .enum-told .given .1) (ap (λ (n : ℕ). eqb n 89) (c .number-of .ensures) ∙ end-is (c .before .before .before .args .a .last))
+
+returns-2 : tie.Need-returns-2
+unfolding mayEnd
+returns-2 c = rw (c .before .enum-told2 .given .1) (c .may-follow .ensures)
+
+pub may-end-spec : {M : Type 1} → statement M
+may-end-spec =
+    tie.close
+    (tie.spec enum-told number-of-requires enum-told-2 may-follow-requires returns returns-2)

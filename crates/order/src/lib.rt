@@ -1,0 +1,120 @@
+// What may follow: the record type decides, with choices on the record before, the service and the transaction type.
+
+ghost use mathlib.Core.Path.{_≡_};
+ghost use lib.Dec.{eqb};
+ghost use lib.ListN.{length};
+ghost use Rattle.rules.specs.Codes.{kindOf, kindFor, numberOfKind};
+ghost use Rattle.rules.specs.Order.{mayFollow, mayEnd};
+ghost use Rattle.order.specs.Whole.{wholeBehind, isRemittance, isDraft};
+use dates::Service;
+use rules::Assignment;
+use rules::Kind;
+use rules::Mode;
+
+// The record type in field 4.
+pub fn kind_of(r: &[u8]) -> Kind
+    requires { ⌜ length (now r) ≡ 81 ⌝ }
+    ensures { λ x. ⌜ x ≡ kindOf (now (r .entry)) ⌝ }
+{
+    kind_for(fields::places::code_at(r, 7))
+}
+
+fn kind_for(code: u8) -> Kind
+    ensures { λ x. ⌜ x ≡ kindFor code ⌝ }
+{
+    match code {
+        30 => Kind::R30,
+        31 => Kind::R31,
+        40 => Kind::R40,
+        49 => Kind::R49,
+        50 => Kind::R50,
+        10 => Kind::R10,
+        20 => Kind::R20,
+        88 => Kind::R88,
+        89 => Kind::R89,
+        _ => Kind::Other,
+    }
+}
+
+fn number_of(kind: Kind) -> u8
+    ensures { λ x. ⌜ x ≡ numberOfKind kind ⌝ }
+{
+    match kind {
+        Kind::R10 => 10,
+        Kind::R20 => 20,
+        Kind::R30 => 30,
+        Kind::R31 => 31,
+        Kind::R40 => 40,
+        Kind::R49 => 49,
+        Kind::R50 => 50,
+        Kind::R88 => 88,
+        Kind::R89 => 89,
+        Kind::Other => 0,
+    }
+}
+
+fn is_remittance(service: Service) -> bool
+    ensures { λ x. ⌜ x ≡ isRemittance service ⌝ }
+{
+    match service {
+        Service::Autogiro => false,
+        Service::Remittance => true,
+    }
+}
+
+fn is_draft(mode: Mode) -> bool
+    ensures { λ x. ⌜ x ≡ isDraft mode ⌝ }
+{
+    match mode {
+        Mode::File => false,
+        Mode::Draft => true,
+    }
+}
+
+// A whole transaction lies behind: the next one, or the end of the assignment, may come.
+fn whole_behind(last: u8, remittance: bool, code: u8) -> bool
+    ensures { λ x. ⌜ x ≡ wholeBehind last remittance (eqb code 4) (eqb code 16) ⌝ }
+{
+    (last == 40)
+        | (last == 49)
+        | (last == 50)
+        | ((last == 31) & !(remittance & ((code == 4) | (code == 16))))
+}
+
+// A record of this type may stand behind the assignment's last one.
+pub fn may_follow(mode: Mode, a: Assignment, kind: Kind) -> bool
+    ensures { λ x. ⌜ x ≡ mayFollow mode a kind ⌝ }
+{
+    let before = a.last;
+    let service = a.service;
+    let code = a.code;
+    let last = number_of(before);
+    let remittance = is_remittance(service);
+    let draft = is_draft(mode);
+    let whole = whole_behind(last, remittance, code);
+    match kind {
+        Kind::R30 => (last == 20) | whole,
+        Kind::R31 => last == 30,
+        Kind::R40 => (last == 31) & remittance & ((code == 3) | (code == 4)),
+        Kind::R49 => (last == 49) | ((last == 31) & !remittance & (code == 3)),
+        Kind::R50 => (last == 50) | ((last == 31) & remittance & (code == 16)),
+        Kind::R88 => !draft & whole,
+        Kind::R20 => (last == 10) | (last == 88) | (draft & whole),
+        Kind::R89 => last == 88,
+        Kind::R10 => last == 0,
+        Kind::Other => false,
+    }
+}
+
+// The input may end behind the assignment's last record.
+pub fn may_end(mode: Mode, a: Assignment) -> bool
+    ensures { λ x. ⌜ x ≡ mayEnd mode a ⌝ }
+{
+    match mode {
+        Mode::File => {
+            let before = a.last;
+            number_of(before) == 89
+        }
+        Mode::Draft => may_follow(Mode::File, a, Kind::R88),
+    }
+}

@@ -1,0 +1,124 @@
+-- Document 01, "What may follow": what a record adds to the file, what it makes of the assignment at hand, and the key that it brings.
+-- Assumes nothing.
+use Prim.Native.Nat.{ℕ}
+use mathlib.Core.List.{List, [], _∷_}
+use lib.Dec.{eqb}
+use Rattle.choice.specs.Choice.{if_then_else_}
+use Rattle.fields.specs.Bytes.{part}
+use Rattle.fields.specs.Numbers.{value}
+use Rattle.dates.specs.declared.Service.{Service}
+use Rattle.dates.specs.declared.Service.the-variants.{Remittance}
+use Rattle.figures.specs.Figures.{amount, transactionNumber}
+use Rattle.figures.specs.Totals.{none, _⊕_, oneRecord, oneAssignment, oneTransaction, noneYet, _⊞_, undated, dated}
+use Rattle.figures.specs.Groups.{emptyGroup, withSpecified, withCredited}
+use Rattle.dates.specs.declared.Date.{Date}
+use Rattle.figures.specs.declared.amounts.Amount.{Amount}
+use Rattle.figures.specs.declared.counts.TransactionNumber.{TransactionNumber}
+use Rattle.figures.specs.declared.groups.Group.{Group}
+use Rattle.figures.specs.declared.totals.Totals.{Totals}
+use Rattle.figures.specs.declared.totals.AssignmentTotals.{AssignmentTotals}
+use Rattle.rules.specs.Codes.{serviceCode, typeCode, serviceFor, kindOf, keyIn}
+use Rattle.rules.specs.Messages.{placeIn, withPlace}
+use Rattle.rules.specs.Payments.{dateIn, amountIn}
+use Rattle.rules.specs.Layouts.{amount50}
+use Rattle.rules.specs.declared.Kind.{Kind}
+use Rattle.rules.specs.declared.Kind.the-variants.{R10, R20, R30, R31, R40, R49, R50, R88, R89, Other}
+use Rattle.rules.specs.declared.Assignment.{Assignment}
+use Rattle.rules.specs.declared.State.{State}
+
+-- what a record adds to the file
+abbrev pub gainFor : Kind → List ℕ → Totals
+gainFor R10 r = oneRecord
+gainFor R20 r = oneAssignment
+gainFor R30 r = oneTransaction (amountIn r) (dateIn r)
+gainFor R31 r = oneRecord
+gainFor R40 r = oneRecord
+gainFor R49 r = oneRecord
+gainFor R50 r = oneRecord
+gainFor R88 r = oneRecord
+gainFor R89 r = oneRecord
+gainFor Other r = oneRecord
+
+-- before any assignment, behind the record of this type
+abbrev pub nothingYet : Kind → Assignment
+nothingYet k = record { last = k; service = Remittance; totals = noneYet; number = transactionNumber 0; code = 0; due = amount 0; group = emptyGroup; places = 0 }
+
+abbrev pub opened : Service → Assignment
+opened s = record { last = R20; service = s; totals = undated oneAssignment; number = transactionNumber 0; code = 0; due = amount 0; group = emptyGroup; places = 0 }
+
+-- one record more that brings no transaction
+abbrev pub passed : Kind → Group → ℕ → Assignment → Assignment
+passed k g ps a = record { last = k; service = a .service; totals = a .totals ⊞ undated oneRecord; number = a .number; code = a .code; due = a .due; group = g; places = ps }
+
+-- only a transaction of type 16 has sub-specifications, which have to give its amount
+abbrev pub dueFor : ℕ → Amount → Amount
+dueFor t x = if eqb t 16 then x else amount 0
+
+-- one transaction more
+abbrev pub paidAs : ℕ → TransactionNumber → Amount → Date → Assignment → Assignment
+paidAs t n x d a =
+    record {
+      last = R30;
+      service = a .service;
+      totals = a .totals ⊞ dated x d;
+      number = n;
+      code = t;
+      due = dueFor t x;
+      group = emptyGroup;
+      places = 0;
+    }
+
+abbrev pub paid : List ℕ → Assignment → Assignment
+paid r a = paidAs (typeCode r) (transactionNumber (value (part 9 15 r))) (amountIn r) (dateIn r) a
+
+-- type 16 specifies, type 17 credits
+abbrev pub groupedAs : ℕ → Amount → Group → Group
+groupedAs t x g = if eqb t 16 then withSpecified g x else withCredited g x
+
+abbrev pub grouped : List ℕ → Group → Group
+grouped r g = groupedAs (typeCode r) (amount (amount50 r)) g
+
+-- what a record makes of the assignment at hand
+abbrev pub turnFor : Kind → List ℕ → Assignment → Assignment
+turnFor R10 r a = nothingYet R10
+turnFor R20 r a = opened (serviceFor (serviceCode r))
+turnFor R30 r a = paid r a
+turnFor R31 r a = passed R31 (a .group) (a .places) a
+turnFor R40 r a = passed R40 (a .group) (a .places) a
+turnFor R49 r a = passed R49 (a .group) (withPlace (a .places) (placeIn r)) a
+turnFor R50 r a = passed R50 (grouped r (a .group)) (a .places) a
+turnFor R88 r a = passed R88 (a .group) (a .places) a
+turnFor R89 r a = passed R89 (a .group) (a .places) a
+turnFor Other r a = a
+
+-- the key of a record 20
+abbrev pub keysFor : Kind → List ℕ → List ℕ
+keysFor R10 r = []
+keysFor R20 r = keyIn r ∷ []
+keysFor R30 r = []
+keysFor R31 r = []
+keysFor R40 r = []
+keysFor R49 r = []
+keysFor R50 r = []
+keysFor R88 r = []
+keysFor R89 r = []
+keysFor Other r = []
+
+abbrev pub gain : List ℕ → Totals
+gain r = gainFor (kindOf r) r
+
+abbrev pub turn : List ℕ → Assignment → Assignment
+turn r a = turnFor (kindOf r) r a
+
+abbrev pub keys : List ℕ → List ℕ
+keys r = keysFor (kindOf r) r
+
+abbrev pub afterFor : Kind → State → List ℕ → State
+afterFor k st r = record { file = st .file ⊕ gainFor k r; assignment = turnFor k r (st .assignment) }
+
+-- the state behind a record, sound or not
+abbrev pub after : State → List ℕ → State
+after st r = afterFor (kindOf r) st r
+
+abbrev pub start : State
+start = record { file = none; assignment = nothingYet Other }

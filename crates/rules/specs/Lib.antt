@@ -1,0 +1,7 @@
+pub mod Codes
+pub mod Order
+pub mod Messages
+pub mod Payments
+pub mod Layouts
+pub mod Growth
+pub mod Run

@@ -1,0 +1,20 @@
+-- Document 01, "What may follow": the 42 places of a message are a set, of which each is taken at most once.
+-- Assumes nothing.
+use Prim.Native.Nat.{ℕ, _+_, _*_, _/_, _%_, _^_}
+use mathlib.Core.List.{List, [], _∷_}
+use mathlib.Core.Bool.{Bool}
+use lib.Bits.{bitOr}
+use lib.Dec.{eqb}
+use Rattle.fields.specs.Bytes.{part}
+use Rattle.fields.specs.Numbers.{value}
+
+-- the place of a line (17-19) and a column (20)
+abbrev pub placeIn : List ℕ → ℕ
+placeIn r = value (part 17 19 r) * 2 + value (part 20 20 r)
+
+-- the set as a mask, with a bit for each place
+unfoldable pub taken : ℕ → ℕ → Bool
+taken places p = eqb (places / 2 ^ p % 2) 1
+
+unfoldable pub withPlace : ℕ → ℕ → ℕ
+withPlace places p = bitOr places (2 ^ p)

@@ -1,0 +1,32 @@
+-- What the run keeps beside its state: the keys of the assignments so far, in the order in which they came.
+-- Assumes nothing.
+use Prim.Native.Nat.{ℕ, _+_, _≤_, _<_}
+use mathlib.Core.Path.{_≡_}
+use mathlib.Core.List.{List, [], _∷_, _++_}
+use mathlib.Core.Bool.{true}
+use lib.ListN.{length, take}
+use Rattle.fields.specs.Bytes.{every, isDigit, part}
+use Rattle.figures.specs.Totals.{_⊕_, oneRecord}
+use Rattle.figures.specs.declared.groups.Group.{Group}
+use Rattle.rules.specs.Codes.{kindOf}
+use Rattle.rules.specs.Growth.{passed, gain, keys}
+use Rattle.rules.specs.declared.Kind.{Kind}
+use Rattle.rules.specs.declared.Kind.the-variants.{R20}
+use Rattle.rules.specs.declared.State.{State}
+
+-- the state behind a record that brings no transaction
+abbrev pub passedOn : Kind → Group → ℕ → State → State
+passedOn k g ps st = record { file = st .file ⊕ oneRecord; assignment = passed k g ps (st .assignment) }
+
+-- a record 20 whose key can be kept: its two numbers are digits, and there is room
+pub record Keyed (r : List ℕ) (used : ℕ) : Type 0 where
+  pub long : length r ≡ 81
+  pub most : used ≤ 500
+  pub room : kindOf r ≡ R20 → used < 500
+  pub agreement : kindOf r ≡ R20 → every isDigit (part 9 17 r) ≡ true
+  pub number : kindOf r ≡ R20 → every isDigit (part 18 24 r) ≡ true
+
+-- behind it the first n keys are those before and this record's, if it has one
+pub record Kept (r before : List ℕ) (used : ℕ) (after : List ℕ) (n : ℕ) : Type 0 where
+  pub count : n ≡ used + gain r .assignments .0
+  pub same : take n after ≡ take used before ++ keys r
