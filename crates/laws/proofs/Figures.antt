@@ -21,6 +21,7 @@ use Rattle.figures.specs.Totals.{none, _⊕_, oneRecord, oneAssignment, oneTran
 use Rattle.figures.specs.declared.totals.Totals.{Totals}
 use Rattle.layout.specs.Rows.{AllHold, must}
 use Rattle.rules.specs.Codes.{recordCode, kindFor, kindOf}
+use Rattle.rules.proofs.Codes.{at-codes}
 use Rattle.rules.specs.Order.{mayFollow}
 use Rattle.rules.specs.Payments.{isDay, theDate, dateIn, amountIn}
 use Rattle.rules.specs.Layouts.{rows, tableFor, record30}
@@ -32,14 +33,6 @@ use Rattle.rules.specs.declared.Mode.{Mode}
 use Rattle.laws.specs.Meets.{gains, Meets}
 use Rattle.laws.specs.Plain.{ofType, sumOf, least, leastDate, FiguresOf}
 
--- what holds of a code, and of every other number, holds of all
-at-code : (P : ℕ → Type 0) (c n : ℕ) → P c → (eqb n c ≡ false → P n) → P n
-at-code P c n here other = go (eqb n c) refl
-  where
-    go : (b : Bool) → eqb n c ≡ b → P n
-    go true e = subst P (sym (eqb-true n c e)) here
-    go false e = other e
-
 -- what a record adds, by its code
 abbrev plainGain : ℕ → List ℕ → Totals
 plainGain n r = if eqb n 30 then oneTransaction (amountIn r) (dateIn r) else (if eqb n 20 then oneAssignment else oneRecord)
@@ -47,9 +40,7 @@ plainGain n r = if eqb n 30 then oneTransaction (amountIn r) (dateIn r) else (if
 gain-is : (n : ℕ) (r : List ℕ) → gainFor (kindFor n) r ≡ plainGain n r
 unfolding kindFor
 gain-is n r =
-    at-code P 30 n refl λ a. at-code P 31 n refl λ b. at-code P 40 n refl λ c. at-code P 49 n refl λ d. at-code P 50 n refl λ e.
-    at-code P 10 n refl λ f. at-code P 20 n refl λ g. at-code P 88 n refl λ h. at-code P 89 n refl λ i.
-    simp (a, b, c, d, e, f, g, h, i)
+    at-codes P n refl refl refl refl refl refl refl refl refl λ a b c d e f g h i. simp (a, b, c, d, e, f, g, h, i)
   where
     P : ℕ → Type 0
     P n = gainFor (kindFor n) r ≡ plainGain n r

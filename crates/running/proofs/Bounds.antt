@@ -12,7 +12,8 @@ use Rattle.dates.specs.declared.Service.{Service}
 use Rattle.dates.specs.declared.Service.the-variants.{Autogiro, Remittance}
 use Rattle.dates.specs.declared.Window.{Window}
 use Rattle.figures.specs.Figures.{amount, within, limitWide}
-use Rattle.figures.specs.Totals.{_⊕_, oneRecord, oneAssignment, oneTransaction}
+use Rattle.dates.specs.declared.Date.{Date}
+use Rattle.figures.specs.Totals.{_⊕_, oneRecord, oneAssignment, oneTransaction, Room}
 use Rattle.figures.specs.declared.amounts.Amount.{Amount}
 use Rattle.figures.specs.declared.groups.Group.{Group}
 use Rattle.figures.specs.declared.totals.Totals.{Totals}
@@ -67,6 +68,10 @@ pub specifies : (f : Totals) (ks : List ℕ) (a : Assignment) (r : List ℕ) →
 unfolding AllHold
 specifies f ks a r h = fits-limit (sumOf (typeCode r) (a .group)) (amount (amount50 r)) limitWide (h .1 .1 .1 .1 .1 .1 .1 .0)
 
+-- what a sum takes is itself within the limit
+pub within-by : (s : ℕ) {x y l : ℕ} → x ≡ y → s + y ≤ l → x ≤ l
+within-by s e h = omega arith
+
 -- both sums of a group stay within the limit
 both-within : (t x : ℕ) (g : Group) → WithinWide (g .specified) → WithinWide (g .credited) → sumOf t g .0 + x ≤ limitWide .0
     → WithinWide (groupedAs t (amount x) g .specified) × WithinWide (groupedAs t (amount x) g .credited)
@@ -99,3 +104,9 @@ small-next k R89 w st ks r s h =
     record { file = more-record k (st .file) (s .file); assignment = more-record k (st .assignment .totals .totals) (s .assignment); specified = s .specified; credited = s .credited }
 small-next k Other w st ks r s h =
     record { file = more-record k (st .file) (s .file); assignment = record { assignments = omega arith; transactions = omega arith; records = omega arith; sum = omega arith }; specified = s .specified; credited = s .credited }
+
+-- the file has room for a transaction whose amount its sum takes
+pub room-for : (st : State) (x : Amount) (d : Date) → Small 200000 st → {y : Amount} → x ≡ y → Paying (st .file) (st .assignment) y → Room (st .file) (oneTransaction x d)
+room-for st x d s {y} e p =
+    let q : x .0 ≡ y .0 = ap (λ (z : Amount). z .0) e in
+    record { assignments = omega (arith, s .file .assignments); transactions = omega (arith, s .file .transactions); records = omega (arith, s .file .records); sum = omega (arith, q, p .file) }

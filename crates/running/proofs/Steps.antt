@@ -3,10 +3,12 @@
 use Prim.Native.Nat.{ℕ, _+_, _<_}
 use mathlib.Core.Path.{_≡_, refl, sym, ap, subst, _∙_}
 use mathlib.Core.List.{List, [], _∷_, _++_}
-use mathlib.Core.Bool.{Bool, true, false}
+use mathlib.Core.Bool.{Bool, true, false, _&&_}
 use native.Mathlib.Omega.{arith}
-use borrow.Author.Tests.{ltb-true}
-use Rattle.fields.specs.Bytes.{every, isDigit, part}
+use borrow.Author.Tests.{ltb-true, ne-eqb}
+use lib.ListN.{length, getD, take}
+use lib.Seq.{drop-cons}
+use Rattle.fields.specs.Bytes.{every, same, isDigit, part}
 use Rattle.dates.specs.declared.Window.{Window}
 use Rattle.figures.specs.declared.totals.Totals.{Totals}
 use Rattle.layout.specs.Rows.{Row, at, must, passes, firstFault, AllHold}
@@ -39,6 +41,25 @@ stepped-same (Fault n k) s t h = refl
 pub stepped-next : (f : Finding) (s t : State) → stepped f s ≡ Next t → (f ≡ Sound) × (s ≡ t)
 stepped-next Sound s t e = (refl, cc)
 stepped-next (Fault n k) s t e = absurd (stop-not-next n k t e)
+
+pub stepped-stop : (f : Finding) (n k : ℕ) (s : State) → f ≡ Fault n k → Stop n k ≡ stepped f s
+stepped-stop f n k s e = sym (ap (λ (x : Finding). stepped x s) e)
+
+-- a record's check as a step of its type: what it found, and where that is sound, the state behind it
+module _ (kind : Kind) (w : Window) (st : State) (ks r : List ℕ) (x : Finding) (found : x ≡ firstFault (st .file) ks r (tableFor kind w (st .assignment) r)) where
+  pub stop-at : (n k : ℕ) → x ≡ Fault n k → Stop n k ≡ kindStep kind w st ks r
+  unfolding kindStep
+  stop-at n k e = stepped-stop _ n k (afterFor kind st r) (sym found ∙ e)
+
+  pub behind : (s : State) → (x ≡ Sound → s ≡ afterFor kind st r) → stepped x s ≡ kindStep kind w st ks r
+  unfolding kindStep
+  behind s h = stepped-same x s (afterFor kind st r) h ∙ ap (λ (y : Finding). stepped y (afterFor kind st r)) found
+
+  pub next-at : (s : State) → x ≡ Sound → s ≡ afterFor kind st r → Next s ≡ kindStep kind w st ks r
+  next-at s e h = sym (ap (λ (y : Finding). stepped y s) e) ∙ behind s (λ _. h)
+
+  pub holds-at : x ≡ Sound → AllHold (st .file) ks r (tableFor kind w (st .assignment) r)
+  holds-at e = all-of-sound (st .file) ks r _ (sym found ∙ e)
 
 module _ (m : Mode) (w : Window) (st : State) (ks r : List ℕ) where
   -- a step that goes on found every row sound, and goes to the state behind the record
@@ -83,6 +104,19 @@ module _ (m : Mode) (w : Window) (st : State) (ks r : List ℕ) where
 
   pub table-of : (k : Kind) → kindOf r ≡ k → firstFault (st .file) ks r (rows m w (st .assignment) r) ≡ Sound → AllHold (st .file) ks r (tableFor k w (st .assignment) r)
   table-of k q e = subst (λ (x : Kind). AllHold (st .file) ks r (tableFor x w (st .assignment) r)) q (table-holds e)
+
+-- the line feed behind a record
+last-byte : (r : List ℕ) → length r ≡ 81 → part 81 81 r ≡ getD r 80 0 ∷ []
+last-byte r h =
+    ap (take 1) (drop-cons r 80 0 (omega arith))
+
+pub feed-yes : (r : List ℕ) → length r ≡ 81 → getD r 80 0 ≡ 10 → same (part 81 81 r) (10 ∷ []) ≡ true
+unfolding same
+feed-yes r h e = ap (λ (s : List ℕ). same s (10 ∷ [])) (last-byte r h ∙ ap (λ (b : ℕ). b ∷ []) e)
+
+pub feed-no : (r : List ℕ) → length r ≡ 81 → (getD r 80 0 ≡ 10 → ⊥) → same (part 81 81 r) (10 ∷ []) ≡ false
+unfolding same
+feed-no r h e = ap (λ (s : List ℕ). same s (10 ∷ [])) (last-byte r h) ∙ ap (λ (b : Bool). b && true) (ne-eqb (getD r 80 0) 10 e)
 
 -- a record of no type may stand nowhere
 pub never-other : (m : Mode) (a : Assignment) → mayFollow m a Other ≡ false

@@ -3,12 +3,13 @@
 ghost use mathlib.Core.Path.{_≡_};
 ghost use mathlib.Core.Bool.{true};
 ghost use mathlib.Core.List.{List, [], _++_};
-ghost use Prim.Native.Nat.{ℕ, _+_, _*_, _≤_, _<_};
+ghost use Prim.Native.Nat.{ℕ, _+_, _/_, _≤_};
 ghost use lib.ListN.{length, take};
 ghost use Rattle.figures.specs.Totals.{_⊕_, oneRecord};
 ghost use Rattle.growth.specs.Bounds.{Small};
 ghost use Rattle.rules.specs.Growth.{passed, start, gain, keys};
-ghost use Rattle.rules.specs.Run.{refused, stepped, kindStep, stepOf, atEnd, run, chunks};
+ghost use Rattle.rules.specs.Codes.{serviceCode, serviceFor};
+ghost use Rattle.rules.specs.Run.{refused, stepped, kindStep, stepOf, ended, atEnd, run, recordsOf};
 ghost use Rattle.running.specs.Kept.{passedOn, Keyed, Kept};
 use dates::Service;
 use dates::Window;
@@ -228,24 +229,92 @@ pub fn take_record(
 }
 
 // Keeps the key of a sound record 20 behind the others, and answers how many are kept.
-pub fn keep_key(r: &[u8], keys: &mut [u64; 500], used: usize) -> usize
-    requires { ⌜ Keyed (now r) used ⌝ }
+pub fn keep_key(r: &[u8], keys: &mut [u64], used: usize) -> usize
+    requires { ⌜ Keyed (now r) used × (length (now keys) ≡ 500) ⌝ }
     ensures { λ x. ⌜ Kept (now (r .entry)) (now (keys .entry)) used (now (keys .exit)) x ⌝ }
 {
-    let kind = order::kind_of(r);
-    match kind {
-        Kind::R20 => {
-            keys[used] = starts::key_of(r);
-            used + 1
-        }
-        Kind::R10 => used,
-        Kind::R30 => used,
-        Kind::R31 => used,
-        Kind::R40 => used,
-        Kind::R49 => used,
-        Kind::R50 => used,
-        Kind::R88 => used,
-        Kind::R89 => used,
-        Kind::Other => used,
+    if fields::places::code_at(r, 7) == 20 {
+        keys[used] = starts::key_of(r);
+        return used + 1;
     }
+    used
+}
+
+fn refusal(number: u8, before: usize, field: u8) -> Verdict
+    requires { ⌜ before ≤ 200000 ⌝ }
+    ensures { λ x. ⌜ x ≡ refused number 0 (before + 1) field ⌝ }
+{
+    Verdict::Refused(Refusal {
+        number,
+        operand: 0,
+        record: before as u64 + 1,
+        field,
+    })
+}
+
+// The last group gave its amount; a file has told so before its end.
+fn gave(mode: Mode, a: Assignment) -> bool
+    ensures { λ x. ⌜ x ≡ ended mode a ⌝ }
+{
+    match mode {
+        Mode::File => true,
+        Mode::Draft => {
+            let group = a.group;
+            let due = a.due;
+            group.gives(due)
+        }
+    }
+}
+
+// The end behind this many records.
+fn finish(mode: Mode, st: State, before: usize) -> Verdict
+    requires { ⌜ before ≤ 200000 ⌝ }
+    ensures { λ x. ⌜ x ≡ atEnd mode before st ⌝ }
+{
+    let a = st.assignment;
+    if !order::may_end(mode, a) {
+        return refusal(6, before, 0);
+    }
+    if !gave(mode, a) {
+        return refusal(14, before, 0);
+    }
+    let file = st.file;
+    Verdict::Accepted(file)
+}
+
+fn begin() -> State
+    ensures { λ x. ⌜ x ≡ start ⌝ }
+{
+    State {
+        file: Totals::none(),
+        assignment: growth::before_assignments(Kind::Other),
+    }
+}
+
+// All records in turn: each is handed on as its own 81 bytes.
+pub fn run_over(mode: Mode, w: Window, bytes: &[u8]) -> Verdict
+    requires { ⌜ length (now bytes) / 81 ≤ 200000 ⌝ }
+    ensures { λ x. ⌜ x ≡ run mode w 0 start [] (recordsOf (now (bytes .entry))) ⌝ }
+{
+    let count = bytes.len() / 81;
+    let mut st = begin();
+    let mut kept = [0u64; 500];
+    let mut used: usize = 0;
+    let mut k: usize = 0;
+    while k < count {
+        let at = 81 * k;
+        let end = at + 81;
+        let r = &bytes[at..end];
+        match take_record(mode, w, st, r, &kept, used) {
+            Step::Stop(number, field) => {
+                return refusal(number, k, field);
+            }
+            Step::Next(next) => {
+                used = keep_key(r, &mut kept, used);
+                st = next;
+            }
+        }
+        k += 1;
+    }
+    finish(mode, st, k)
 }

@@ -1,0 +1,54 @@
+-- Record 89 in three pieces: fixed fields, the file's figures, the zeros.
+-- Assumes nothing.
+use mathlib.Core.Path.{sym, _∙_}
+use mathlib.Core.List.{[], _∷_, _++_}
+use Rattle.layout.specs.Rules.{zeros}
+use Rattle.layout.specs.Rows.{at}
+use Rattle.layout.proofs.Laws.{pieces}
+use Rattle.ends.specs.Stages.{head89, figuresIn}
+use Rattle.ends.proofs.Laws.{then-rows, file-as-own}
+use borrow.Author.Needs.{needs}
+use Rattle.ends.proofs.check89.Statement.{statement}
+use Rattle.ends.proofs.check89.Tie as tie
+use Rattle.ends.proofs.check89.Reads as reads
+use Rattle.ends.proofs.check89.Lts as lts
+use Rattle.ends.proofs.figures_in.Reads as figures-in-reads
+use Rattle.ends.proofs.fixed89.Reads as fixed89-reads
+use Rattle.fields.proofs.places.all_at.Reads as all-at-reads
+use Rattle.layout.proofs.Finding.demand.Reads as demand-reads
+use Rattle.layout.proofs.Finding.or_else.Reads as or-else-reads
+
+fixed89-requires : tie.Need-fixed89-requires
+fixed89-requires c κs = search needs
+
+figures-in-requires : tie.Need-figures-in-requires
+figures-in-requires c κs = search needs
+
+or-else-requires : tie.Need-or-else-requires
+or-else-requires c κs = search needs
+
+all-at-requires : tie.Need-all-at-requires
+all-at-requires c κs = search needs
+
+demand-requires : tie.Need-demand-requires
+demand-requires c κs = search needs
+
+returns : tie.Need-returns
+returns c = λ ks.
+    let p = c .before .before in
+    let a = p .before .before .before .before .args in
+    let r = a .r .now in
+    let f = a .file in
+    simp (c .demand .ensures, c .before .all-at .ensures, p .or-else .ensures, p .before .figures-in .ensures f ks, p .before .before .fixed89 .ensures f ks)
+    (sym (file-as-own f ks r ∙ then-rows f ks r (head89 ++ figuresIn r f) (at 9 48 80 zeros ∷ []) (pieces f ks r head89 (figuresIn r f))))
+
+pub check89-spec : {M : Type 1} → statement M
+check89-spec =
+    tie.close
+    (tie.spec
+    fixed89-requires
+    figures-in-requires
+    or-else-requires
+    all-at-requires
+    demand-requires
+    returns)

@@ -1,0 +1,21 @@
+use mathlib.Core.Path.{ap, _∙_}
+use Rattle.pay_c.specs.Answers.{numbers}
+use borrow.Author.Needs.{needs}
+use Rattle.pay_c.proofs.pay_check.Statement.{statement}
+use Rattle.pay_c.proofs.pay_check.Tie as tie
+use Rattle.pay_c.proofs.pay_check.Reads as reads
+use Rattle.pay_c.proofs.pay_check.Lts as lts
+use Rattle.checking.proofs.check.Reads as check-reads
+use Rattle.pay_c.proofs.tell.Reads as tell-reads
+
+check-requires : tie.Need-check-requires
+check-requires c κs = search needs
+
+tell-requires : tie.Need-tell-requires
+tell-requires c κs = search needs
+
+returns : tie.Need-returns
+returns c = c .tell .ensures ∙ ap numbers (c .before .before .check .ensures)
+
+pub pay-check-spec : {M : Type 1} → statement M
+pay-check-spec = tie.close (tie.spec check-requires tell-requires returns)

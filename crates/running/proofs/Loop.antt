@@ -1,0 +1,147 @@
+-- The loop over the records: what holds behind k of them, at the start, from one to the next, and at the end.
+-- Assumes nothing.
+use Prim.Native.Nat.{ℕ, zero, suc, _+_, _-_, _*_, _/_, _≤_, _<_}
+use mathlib.Core.Path.{_≡_, refl, sym, ap, subst, _∙_}
+use mathlib.Core.Logic.{_⊎_, inl, inr, ⊎-elim}
+use mathlib.Core.List.{List, [], _∷_, _++_}
+use mathlib.Core.Bool.{Bool, true, false}
+use native.Mathlib.Omega.{arith}
+use native.Mathlib.Numerals.{add-one}
+use lib.ListN.{length, take, drop, set}
+use lib.Seq.{take-suc-set}
+use Rattle.dates.specs.declared.Window.{Window}
+use Rattle.fields.specs.Bytes.{every, isDigit, part}
+use Rattle.growth.specs.Bounds.{Bounded, Small}
+use Rattle.layout.specs.Rows.{firstFault}
+use Rattle.layout.specs.declared.Finding.the-variants.{Sound}
+use Rattle.rules.specs.Codes.{kindOf, keyIn}
+use Rattle.rules.specs.Layouts.{rows}
+use Rattle.rules.specs.Growth.{gainFor, gain, keysFor, keys, after, start}
+use Rattle.rules.specs.Run.{refused, stepOf, atEnd, run, chunks, recordsOf}
+use Rattle.rules.specs.declared.Kind.{Kind}
+use Rattle.rules.specs.declared.Kind.the-variants.{R10, R20, R30, R31, R40, R49, R50, R88, R89, Other}
+use Rattle.rules.specs.declared.Mode.{Mode}
+use Rattle.rules.specs.declared.State.{State}
+use Rattle.rules.specs.declared.Step.the-variants.{Next, Stop}
+use Rattle.rules.specs.declared.Verdict.{Verdict}
+use Rattle.running.specs.Kept.{Keyed, Kept}
+use Rattle.running.proofs.Steps.{went-on, run-next, run-stop, table-holds, table-of, Opens, opens}
+use Rattle.running.proofs.Bounds.{small-next}
+use Rattle.running.proofs.Records.{rest, rest-next, rest-end, rest-start, part-long}
+
+-- only a record 20 adds an assignment and a key
+one-or-none : (k : Kind) (r : List ℕ) → (gainFor k r .assignments .0 ≡ 0) ⊎ ((k ≡ R20) × (gainFor k r .assignments .0 ≡ 1))
+one-or-none R10 r = inl refl
+one-or-none R20 r = inr (refl, refl)
+one-or-none R30 r = inl refl
+one-or-none R31 r = inl refl
+one-or-none R40 r = inl refl
+one-or-none R49 r = inl refl
+one-or-none R50 r = inl refl
+one-or-none R88 r = inl refl
+one-or-none R89 r = inl refl
+one-or-none Other r = inl refl
+
+-- a key put behind the others
+pub put-key : (l : List ℕ) (n v : ℕ) (r : List ℕ) → n < length l → v ≡ keyIn r → take (n + 1) (set l n v) ≡ take n l ++ (keyIn r ∷ [])
+put-key l n v r h e = rw (add-one, take-suc-set l n v h, e)
+
+-- behind k of n records of b
+pub record At (m : Mode) (w : Window) (b : List ℕ) (n : ℕ) (st : State) (kept : List ℕ) (used k : ℕ) : Type 0 where
+  pub within : k ≤ n
+  pub few : n ≤ 200000
+  pub size : 81 * n ≤ length b
+  pub slots : length kept ≡ 500
+  pub counted : used ≡ st .file .assignments .0
+  pub most : used ≤ 500
+  pub small : Small k st
+  pub same : run m w 0 start [] (chunks n b) ≡ run m w k st (take used kept) (rest b n k)
+
+pub small-start : Small 0 start
+small-start =
+    record {
+      file = record { assignments = omega arith; transactions = omega arith; records = omega arith; sum = omega arith };
+      assignment = record { assignments = omega arith; transactions = omega arith; records = omega arith; sum = omega arith };
+      specified = omega arith;
+      credited = omega arith;
+    }
+
+-- a bound that is met by fewer is met by more
+pub smaller : (k n : ℕ) (st : State) → k ≤ n → Small k st → Small n st
+smaller k n st h s =
+    record {
+      file = record { assignments = omega (arith, s .file .assignments); transactions = omega (arith, s .file .transactions); records = omega (arith, s .file .records); sum = s .file .sum };
+      assignment =
+        record { assignments = omega (arith, s .assignment .assignments); transactions = omega (arith, s .assignment .transactions); records = omega (arith, s .assignment .records); sum = s .assignment .sum };
+      specified = s .specified;
+      credited = s .credited;
+    }
+
+module _ (m : Mode) (w : Window) (b : List ℕ) (n : ℕ) where
+  pub at-start : (st : State) (kept : List ℕ) → n ≤ 200000 → 81 * n ≤ length b → st ≡ start → length kept ≡ 500 → At m w b n st kept 0 0
+  at-start st kept f l e five =
+      record {
+        within = omega arith;
+        few = f;
+        size = l;
+        slots = five;
+        counted = ap (λ (x : State). x .file .assignments .0) (sym e);
+        most = omega arith;
+        small = subst (Small 0) (sym e) small-start;
+        same = ap (run m w 0 start []) (sym (rest-start b n)) ∙ ap (λ (x : State). run m w 0 x [] (rest b n 0)) (sym e);
+      }
+
+  module _ (st : State) (kept : List ℕ) (used k : ℕ) (a : At m w b n st kept used k) (h : k < n) (r : List ℕ) (e : r ≡ take 81 (drop (81 * k) b)) where
+    here : rest b n k ≡ r ∷ rest b n (k + 1)
+    here = rest-next b n k h ∙ ap (λ (x : List ℕ). x ∷ rest b n (k + 1)) (sym e)
+
+    -- the record has its 81 bytes, and the figures are small enough for it
+    pub long : length r ≡ 81
+    long = ap length e ∙ part-long b k (omega (arith, a .size))
+
+    pub room : Small 200000 st
+    room = smaller k 200000 st (omega (arith, a .few)) (a .small)
+
+    pub stopped : (x y : ℕ) → Stop x y ≡ stepOf m w st (take used kept) r → run m w 0 start [] (chunks n b) ≡ refused x 0 (k + 1) y
+    stopped x y q = a .same ∙ ap (run m w k st (take used kept)) here ∙ run-stop m w st (take used kept) r k (rest b n (k + 1)) x y (sym q)
+
+    module _ (s : State) (q : Next s ≡ stepOf m w st (take used kept) r) where
+      sound : firstFault (st .file) (take used kept) r (rows m w (st .assignment) r) ≡ Sound
+      sound = went-on m w st (take used kept) r s (sym q) .0
+
+      opening : kindOf r ≡ R20 → Opens (st .file) r
+      opening p = opens (st .file) (take used kept) (st .assignment) r (table-of m w st (take used kept) r R20 p sound)
+
+      pub keyed : Keyed r used
+      keyed =
+          record {
+            long = long;
+            most = a .most;
+            room = λ p. omega (arith, a .counted, opening p .room);
+            agreement = λ p. opening p .agreement;
+            number = λ p. opening p .number;
+          }
+
+      most-next : used + gain r .assignments .0 ≤ 500
+      most-next = ⊎-elim (λ (z : gain r .assignments .0 ≡ 0). omega (arith, a .most)) (λ (z : (kindOf r ≡ R20) × (gain r .assignments .0 ≡ 1)). omega (arith, a .counted, opening (z .0) .room)) (one-or-none (kindOf r) r)
+
+      pub at-next : (kept′ : List ℕ) (used′ : ℕ) → Kept r kept used kept′ used′ → length kept′ ≡ length kept → At m w b n s kept′ used′ (k + 1)
+      at-next kept′ used′ v five =
+          let i : after st r ≡ s = went-on m w st (take used kept) r s (sym q) .1 in
+          record {
+            within = omega arith;
+            few = a .few;
+            size = a .size;
+            slots = five ∙ a .slots;
+            counted = v .count ∙ ap (λ (x : ℕ). x + gain r .assignments .0) (a .counted) ∙ ap (λ (x : State). x .file .assignments .0) i;
+            most = omega (arith, v .count, most-next);
+            small = subst (Small (k + 1)) i (small-next k (kindOf r) w st (take used kept) r (a .small) (table-holds m w st (take used kept) r sound));
+            same =
+              a .same ∙ ap (run m w k st (take used kept)) here ∙ run-next m w st (take used kept) r k (rest b n (k + 1)) s (sym q)
+              ∙ ap (λ (x : List ℕ). run m w (k + 1) s x (rest b n (k + 1))) (sym (v .same));
+          }
+
+  -- nothing is left
+  pub at-last : (st : State) (kept : List ℕ) (used k : ℕ) → At m w b n st kept used k → n ≤ k → run m w 0 start [] (chunks n b) ≡ atEnd m k st
+  unfolding run
+  at-last st kept used k a h = a .same ∙ ap (run m w k st (take used kept)) (rest-end b n k (omega (arith, a .within)))

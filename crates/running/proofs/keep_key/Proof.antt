@@ -1,0 +1,71 @@
+use Prim.Native.Nat.{ℕ, _+_, _<_}
+use mathlib.Core.Path.{_≡_, refl, ap, sym, _∙_}
+use mathlib.Core.List.{List, _++_, append-nil}
+use native.Mathlib.Omega.{arith}
+use lib.ListN.{length, take}
+use Rattle.rules.specs.Codes.{recordCode, kindOf}
+use Rattle.rules.specs.Growth.{gainFor, keysFor}
+use Rattle.rules.specs.declared.Kind.{Kind}
+use Rattle.rules.specs.declared.Kind.the-variants.{R20}
+use Rattle.rules.proofs.Codes.{twenty, no-key}
+use Rattle.running.specs.Kept.{Kept}
+use Rattle.running.proofs.Loop.{put-key}
+use borrow.Author.Needs.{needs}
+use Rattle.running.proofs.keep_key.Statement.{statement}
+use Rattle.running.proofs.keep_key.Tie as tie
+use Rattle.running.proofs.keep_key.Reads as reads
+use Rattle.running.proofs.keep_key.Lts as lts
+use Rattle.fields.proofs.places.code_at.Reads as code-at-reads
+use Rattle.starts.proofs.key_of.Reads as key-of-reads
+
+-- in the branch the record is a 20
+is20 : (c : tie.After-key-of) → kindOf (c .before .before .before .before .before .args .r .now) ≡ R20
+is20 c = twenty _ (sym (c .before .before .code-at .ensures) ∙ c .before .if1 .taken)
+
+code-at-requires : tie.Need-code-at-requires
+code-at-requires c κs = search needs
+
+key-of-requires : tie.Need-key-of-requires
+key-of-requires c κs = search needs
+
+mul-keys : tie.Need-mul-keys
+mul-keys c = search needs
+
+slice-write-keys : tie.Need-slice-write-keys
+slice-write-keys c = omega (arith, c .before .before .before .before .before .pre .0 .room (is20 c), c .before .before .before .before .before .pre .1)
+
+add-result : tie.Need-add-result
+add-result c = search needs
+
+same-length : tie.Need-same-length
+same-length c = search needs
+
+returns : tie.Need-returns
+returns c =
+    let p = c .before .before .before .before .before in
+    let a = p .args in
+    let k = is20 c in
+    let v = c .key-of .ensures (p .pre .0 .agreement k) (p .pre .0 .number k) in
+    record {
+      count = ap (λ (x : Kind). a .used + gainFor x (a .r .now) .assignments .0) (sym k);
+      same = put-key (a .keys .now) (a .used) _ (a .r .now) (omega (arith, p .pre .0 .room k, p .pre .1)) v ∙ ap (λ (x : Kind). take (a .used) (a .keys .now) ++ keysFor x (a .r .now)) (sym k);
+    }
+
+returns-2 : tie.Need-returns-2
+returns-2 c =
+    let a = c .before .before .before .before .args in
+    let n = no-key (recordCode (a .r .now)) (a .r .now) (λ e. c .if1 .left (c .before .code-at .ensures ∙ e)) in
+    record { count = omega (arith, n .1); same = sym (ap (λ (l : List ℕ). take (a .used) (a .keys .now) ++ l) (n .0) ∙ append-nil _) }
+
+pub keep-key-spec : {M : Type 1} → statement M
+keep-key-spec =
+    tie.close
+    (tie.spec
+    code-at-requires
+    key-of-requires
+    mul-keys
+    slice-write-keys
+    add-result
+    same-length
+    returns
+    returns-2)

@@ -1,0 +1,88 @@
+-- Record 10 in four pieces: fixed fields, sender, number, and the rest row by row.
+-- Assumes nothing.
+use mathlib.Core.Path.{sym}
+use mathlib.Core.List.{List, [], _∷_, _++_}
+use Rattle.layout.specs.Rules.{digits, fixed, zeros}
+use Rattle.layout.specs.Rows.{Row, at}
+use Rattle.layout.proofs.Laws.{pieces}
+use Rattle.starts.specs.Stages.{head10}
+use Rattle.starts.proofs.Laws.{then-piece, then-rows}
+use borrow.Author.Needs.{needs}
+use Rattle.starts.proofs.check10.Statement.{statement}
+use Rattle.starts.proofs.check10.Tie as tie
+use Rattle.starts.proofs.check10.Reads as reads
+use Rattle.starts.proofs.check10.Lts as lts
+use Rattle.fields.proofs.places.all_at.Reads as all-at-reads
+use Rattle.fields.proofs.places.same_at.Reads as same-at-reads
+use Rattle.layout.proofs.Finding.demand.Reads as demand-reads
+use Rattle.layout.proofs.Finding.or_else.Reads as or-else-reads
+use Rattle.starts.proofs.digits_at.Reads as digits-at-reads
+use Rattle.starts.proofs.fixed10.Reads as fixed10-reads
+
+fixed10-requires : tie.Need-fixed10-requires
+fixed10-requires c κs = search needs
+
+digits-at-requires : tie.Need-digits-at-requires
+digits-at-requires c κs = search needs
+
+or-else-requires : tie.Need-or-else-requires
+or-else-requires c κs = search needs
+
+digits-at-requires-2 : tie.Need-digits-at-requires-2
+digits-at-requires-2 c κs = search needs
+
+or-else-requires-2 : tie.Need-or-else-requires-2
+or-else-requires-2 c κs = search needs
+
+slice-aggregate-same-at : tie.Need-slice-aggregate-same-at
+slice-aggregate-same-at c = search needs
+
+same-at-requires : tie.Need-same-at-requires
+same-at-requires c κs = search needs
+
+demand-requires : tie.Need-demand-requires
+demand-requires c κs = search needs
+
+all-at-requires : tie.Need-all-at-requires
+all-at-requires c κs = search needs
+
+demand-requires-2 : tie.Need-demand-requires-2
+demand-requires-2 c κs = search needs
+
+returns : tie.Need-returns
+returns c = λ f ks.
+    let p = c .before .before in
+    let q = p .before .before .before in
+    let o = q .before .before in
+    let r = o .before .before .before .before .args .r .now in
+    let sender : List Row = at 5 9 16 digits ∷ [] in
+    let number : List Row = at 6 17 23 digits ∷ [] in
+    let rest : List Row = at 7 24 31 (fixed "00008080") ∷ at 8 32 80 zeros ∷ [] in
+    simp (
+      c .demand2 .ensures,
+      c .before .all-at .ensures,
+      p .demand .ensures,
+      p .before .same-at .ensures,
+      q .or-else2 .ensures,
+      q .before .digits-at2 .ensures f ks,
+      o .or-else .ensures,
+      o .before .digits-at .ensures f ks,
+      o .before .before .fixed10 .ensures f ks,
+    )
+    (sym (then-rows f ks r ((head10 ++ sender) ++ number) rest (then-piece f ks r (head10 ++ sender) number (pieces f ks r head10 sender))))
+
+pub check10-spec : {M : Type 1} → statement M
+check10-spec =
+    tie.close
+    (tie.spec
+    fixed10-requires
+    digits-at-requires
+    or-else-requires
+    digits-at-requires-2
+    or-else-requires-2
+    slice-aggregate-same-at
+    same-at-requires
+    demand-requires
+    all-at-requires
+    demand-requires-2
+    returns)
