@@ -2,7 +2,6 @@
 
 ghost use mathlib.Core.Path.{_≡_};
 ghost use Rattle.rules.specs.Run.{refused, checkOf};
-
 use dates::Opening;
 use dates::ProcessDay;
 use rules::Mode;

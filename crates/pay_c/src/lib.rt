@@ -3,7 +3,6 @@
 ghost use mathlib.Core.Path.{_≡_};
 ghost use Rattle.rules.specs.Run.{checkOf};
 ghost use Rattle.pay_c.specs.Answers.{dayFrom, numbers};
-
 use dates::ProcessDay;
 use rules::Verdict;
 
@@ -52,5 +51,8 @@ fn tell(verdict: Verdict, answer: &mut [u64; 10])
 pub extern "C" fn pay_check(year: u64, month: u64, day: u64, file: &[u8], answer: &mut [u64; 10])
     ensures { λ _. ⌜ now (answer .exit) ≡ numbers (checkOf (dayFrom year month day) (now (file .entry))) ⌝ }
 {
-    tell(checking::check(ProcessDay { year, month, day }, file), answer);
+    tell(
+        checking::check(ProcessDay { year, month, day }, file),
+        answer,
+    );
 }

@@ -72,7 +72,7 @@ smaller k n st h s =
     record {
       file = record { assignments = omega (arith, s .file .assignments); transactions = omega (arith, s .file .transactions); records = omega (arith, s .file .records); sum = s .file .sum };
       assignment =
-        record { assignments = omega (arith, s .assignment .assignments); transactions = omega (arith, s .assignment .transactions); records = omega (arith, s .assignment .records); sum = s .assignment .sum };
+          record { assignments = omega (arith, s .assignment .assignments); transactions = omega (arith, s .assignment .transactions); records = omega (arith, s .assignment .records); sum = s .assignment .sum };
       specified = s .specified;
       credited = s .credited;
     }
@@ -137,8 +137,8 @@ module _ (m : Mode) (w : Window) (b : List ℕ) (n : ℕ) where
             most = omega (arith, v .count, most-next);
             small = subst (Small (k + 1)) i (small-next k (kindOf r) w st (take used kept) r (a .small) (table-holds m w st (take used kept) r sound));
             same =
-              a .same ∙ ap (run m w k st (take used kept)) here ∙ run-next m w st (take used kept) r k (rest b n (k + 1)) s (sym q)
-              ∙ ap (λ (x : List ℕ). run m w (k + 1) s x (rest b n (k + 1))) (sym (v .same));
+                a .same ∙ ap (run m w k st (take used kept)) here ∙ run-next m w st (take used kept) r k (rest b n (k + 1)) s (sym q)
+                ∙ ap (λ (x : List ℕ). run m w (k + 1) s x (rest b n (k + 1))) (sym (v .same));
           }
 
   -- nothing is left

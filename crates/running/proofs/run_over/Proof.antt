@@ -51,10 +51,11 @@ take-record-requires c κs =
     let a = p .before .before .before .args in
     let b = a .bytes .now in
     let e = part-is b (p .loop .k) in
-    let h : p .loop .k < length b / 81 = omega arith in
-    ( long (a .mode) (a .w) b (length b / 81) (p .loop .st) (p .loop .kept) (p .loop .used) (p .loop .k) (p .loop .inv) h _ e
-    , room (a .mode) (a .w) b (length b / 81) (p .loop .st) (p .loop .kept) (p .loop .used) (p .loop .k) (p .loop .inv) h _ e
-    , p .loop .inv .most)
+    let h : p .loop .k < length b / 81 = omega arith in (
+      long (a .mode) (a .w) b (length b / 81) (p .loop .st) (p .loop .kept) (p .loop .used) (p .loop .k) (p .loop .inv) h _ e,
+      room (a .mode) (a .w) b (length b / 81) (p .loop .st) (p .loop .kept) (p .loop .used) (p .loop .k) (p .loop .inv) h _ e,
+      p .loop .inv .most,
+    )
 
 enum-known-number : tie.Need-enum-known-number Inv-loop μ-loop
 enum-known-number c = search needs
@@ -84,9 +85,10 @@ keep-key-requires c κs =
     let p = t .before .before .before .before in
     let a = p .before .before .before .args in
     let b = a .bytes .now in
-    let h : p .loop .k < length b / 81 = omega arith in
-    ( keyed (a .mode) (a .w) b (length b / 81) (p .loop .st) (p .loop .kept) (p .loop .used) (p .loop .k) (p .loop .inv) h _ (part-is b (p .loop .k)) _ (sym (c .before .before .next .given .1) ∙ t .take-record .ensures)
-    , p .loop .inv .slots)
+    let h : p .loop .k < length b / 81 = omega arith in (
+      keyed (a .mode) (a .w) b (length b / 81) (p .loop .st) (p .loop .kept) (p .loop .used) (p .loop .k) (p .loop .inv) h _ (part-is b (p .loop .k)) _ (sym (c .before .before .next .given .1) ∙ t .take-record .ensures),
+      p .loop .inv .slots,
+    )
 
 add-k : tie.Need-add-k Inv-loop μ-loop
 add-k c = search needs

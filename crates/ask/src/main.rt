@@ -1,0 +1,37 @@
+// Document 01's program: a line DDMMYY and up to 800 records on standard input, one line of answer.
+
+use fields::digits::Digits;
+use libc::STDIN_FILENO;
+use libc::STDOUT_FILENO;
+
+fn no_day() {
+    telling::print_refusal(1, 0, 0);
+    telling::end_line();
+}
+
+// All that came: the line of seven bytes, and behind it at most 64,800.
+fn answer(all: &[u8]) {
+    if all.len() < 7 {
+        no_day();
+        return;
+    }
+    if all[6] != 10 {
+        no_day();
+        return;
+    }
+    let Digits::Number(ddmmyy) = fields::places::number_at(all, 1, 6) else {
+        no_day();
+        return;
+    };
+    if 64807 < all.len() {
+        io::write_all(STDOUT_FILENO, b"too long\n");
+        return;
+    }
+    telling::print_check(checking::check(telling::process_day(ddmmyy), &all[7..]));
+}
+
+fn main() {
+    let mut buffer = [0u8; 64808];
+    let n = io::read_full(STDIN_FILENO, &mut buffer);
+    answer(&buffer[..n]);
+}
