@@ -1,10 +1,9 @@
--- What is sound as a whole is sound in each piece; a piece with a function of its own, between rows that are demanded one by one.
+-- A piece with a function of its own, between rows that are demanded one by one.
 -- Assumes nothing.
 use Prim.Native.Nat.{ℕ}
 use mathlib.Core.Path.{_≡_, refl, _∙_, ap}
 use mathlib.Core.List.{List, [], _∷_, _++_}
 use mathlib.Core.Bool.{Bool, true, false, _||_, or-false}
-use native.Mathlib.Omega.{arith}
 use Rattle.fields.specs.Bytes.{same, text}
 use Rattle.figures.specs.declared.totals.Totals.{Totals}
 use Rattle.layout.specs.Findings.{orElse, demanded}
@@ -13,17 +12,6 @@ use Rattle.layout.specs.Rows.{Row, firstFault}
 use Rattle.layout.specs.declared.Finding.{Finding}
 use Rattle.layout.specs.declared.Finding.the-variants.{Sound, Fault}
 use Rattle.layout.proofs.Laws.{pieces, inTurn, rows-behind}
-
-pub fault-not-sound : (n k : ℕ) → Fault n k ≡ Sound → ⊥
-fault-not-sound n k e = let z : _≡_ {A = ℕ} 0 1 = cc in omega arith
-
-pub or-else-both : (a b : Finding) → orElse a b ≡ Sound → (a ≡ Sound) × (b ≡ Sound)
-or-else-both Sound b h = (refl, h)
-or-else-both (Fault n k) b h = absurd (fault-not-sound n k h)
-
-pub demanded-both : (a : Finding) (ok : Bool) (n k : ℕ) → demanded a ok n k ≡ Sound → (a ≡ Sound) × (ok ≡ true)
-demanded-both a true n k h = (or-else-both a Sound h .0, refl)
-demanded-both a false n k h = absurd (fault-not-sound n k (or-else-both a (Fault n k) h .1))
 
 module _ (f : Totals) (ks : List ℕ) (r : List ℕ) where
   -- a piece, rows, a piece, rows

@@ -1,4 +1,4 @@
--- Tables put together piece by piece as the code does; a file's figures are tested as an assignment's are.
+-- A file's figures are tested as an assignment's are.
 -- Assumes nothing.
 use Prim.Native.Nat.{ℕ}
 use mathlib.Core.Path.{_≡_, refl, _∙_, ap}
@@ -13,14 +13,6 @@ use Rattle.rules.specs.Layouts.{record89}
 use Rattle.ends.specs.Stages.{head89, figuresIn}
 
 module _ (f : Totals) (ks r : List ℕ) where
-  -- a piece behind what was found
-  pub then-piece : (ws vs : List Row) {x : Finding} → firstFault f ks r ws ≡ x → firstFault f ks r (ws ++ vs) ≡ orElse x (firstFault f ks r vs)
-  then-piece ws vs e = pieces f ks r ws vs ∙ ap (λ (y : Finding). orElse y (firstFault f ks r vs)) e
-
-  -- single rows behind what was found
-  pub then-rows : (ws vs : List Row) {x : Finding} → firstFault f ks r ws ≡ x → firstFault f ks r (ws ++ vs) ≡ inTurn f ks r x vs
-  then-rows ws vs e = rows-behind f ks r ws vs ∙ ap (λ (y : Finding). inTurn f ks r y vs) e
-
   -- record 89 tests the file's figures as 88 tests its assignment's
   pub file-as-own : firstFault f ks r (record89 r) ≡ firstFault f ks r ((head89 ++ figuresIn r f) ++ (at 9 48 80 zeros ∷ []))
   unfolding firstFault

@@ -2,7 +2,6 @@
 
 ghost use mathlib.Core.Path.{_≡_};
 ghost use Prim.Native.Nat.{_+_};
-ghost use lib.Dec.{leb, eqb};
 ghost use Rattle.figures.specs.Figures.{plus, within, Fits};
 
 pub struct Amount(pub u64);
@@ -23,17 +22,5 @@ impl Amount {
         ensures { λ r. ⌜ r ≡ plus self more ⌝ }
     {
         Amount(self.0 + more.0)
-    }
-
-    pub fn equals(self, other: Amount) -> bool
-        ensures { λ r. ⌜ r ≡ eqb (self .0) (other .0) ⌝ }
-    {
-        self.0 == other.0
-    }
-
-    pub fn at_most(self, limit: Amount) -> bool
-        ensures { λ r. ⌜ r ≡ leb (self .0) (limit .0) ⌝ }
-    {
-        self.0 <= limit.0
     }
 }

@@ -2,7 +2,7 @@
 
 ghost use mathlib.Core.Path.{_≡_};
 ghost use Prim.Native.Nat.{_+_};
-ghost use lib.Dec.{leb, eqb};
+ghost use lib.Dec.{eqb};
 ghost use Rattle.figures.specs.Figures.{follows, Fits};
 ghost use Rattle.figures.specs.Totals.{countPlus};
 
@@ -17,18 +17,6 @@ impl Count {
         ensures { λ r. ⌜ r ≡ countPlus self more ⌝ }
     {
         Count(self.0 + more.0)
-    }
-
-    pub fn equals(self, other: Count) -> bool
-        ensures { λ r. ⌜ r ≡ eqb (self .0) (other .0) ⌝ }
-    {
-        self.0 == other.0
-    }
-
-    pub fn at_most(self, limit: Count) -> bool
-        ensures { λ r. ⌜ r ≡ leb (self .0) (limit .0) ⌝ }
-    {
-        self.0 <= limit.0
     }
 }
 

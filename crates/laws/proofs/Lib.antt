@@ -1,4 +1,5 @@
 pub mod Sound
 pub mod First
+pub mod Frame
 pub mod Figures
 pub mod Demand2

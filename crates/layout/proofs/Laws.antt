@@ -19,7 +19,7 @@ use Rattle.layout.specs.Rows.{Row, passes, firstFault, AllHold, rowNumbe
 use Rattle.layout.specs.declared.Finding.{Finding}
 use Rattle.layout.specs.declared.Finding.the-variants.{Sound, Fault}
 
-fault-not-sound : (n k : ℕ) → Fault n k ≡ Sound → ⊥
+pub fault-not-sound : (n k : ℕ) → Fault n k ≡ Sound → ⊥
 fault-not-sound n k e = let z : _≡_ {A = ℕ} 0 1 = cc in omega arith
 
 pub or-else-assoc : (a b c : Finding) → orElse (orElse a b) c ≡ orElse a (orElse b c)
@@ -29,6 +29,15 @@ or-else-assoc (Fault n k) b c = refl
 pub or-else-sound : (a : Finding) → orElse a Sound ≡ a
 or-else-sound Sound = refl
 or-else-sound (Fault n k) = refl
+
+-- where two findings together are sound, each is
+pub or-else-both : (a b : Finding) → orElse a b ≡ Sound → (a ≡ Sound) × (b ≡ Sound)
+or-else-both Sound b h = (refl, h)
+or-else-both (Fault n k) b h = absurd (fault-not-sound n k h)
+
+pub demanded-both : (a : Finding) (ok : Bool) (n k : ℕ) → demanded a ok n k ≡ Sound → (a ≡ Sound) × (ok ≡ true)
+demanded-both a true n k h = (or-else-both a Sound h .0, refl)
+demanded-both a false n k h = absurd (fault-not-sound n k (or-else-both a (Fault n k) h .1))
 
 module _ (f : Totals) (ks : List ℕ) (r : List ℕ) where
   -- a row that holds leaves the rest of the table; one that does not ends it
@@ -92,6 +101,13 @@ module _ (f : Totals) (ks : List ℕ) (r : List ℕ) where
   -- a piece, and the rows behind it demanded one by one
   pub rows-behind : (ws vs : List Row) → firstFault f ks r (ws ++ vs) ≡ inTurn (firstFault f ks r ws) vs
   rows-behind ws vs = pieces ws vs ∙ row-by-row (firstFault f ks r ws) vs
+
+  -- the same behind what a first piece was found to be: another piece, or single rows
+  pub then-piece : (ws vs : List Row) {x : Finding} → firstFault f ks r ws ≡ x → firstFault f ks r (ws ++ vs) ≡ orElse x (firstFault f ks r vs)
+  then-piece ws vs e = pieces ws vs ∙ ap (λ (y : Finding). orElse y (firstFault f ks r vs)) e
+
+  pub then-rows : (ws vs : List Row) {x : Finding} → firstFault f ks r ws ≡ x → firstFault f ks r (ws ++ vs) ≡ inTurn x vs
+  then-rows ws vs e = rows-behind ws vs ∙ ap (λ (y : Finding). inTurn y vs) e
 
   -- a piece, and behind it a row that does not hold
   pub cut : (ws : List Row) (w : Row) (vs : List Row) → passes f ks r w ≡ false

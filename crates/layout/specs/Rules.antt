@@ -4,9 +4,9 @@ use Prim.Native.Nat.{ℕ}
 use Prim.Native.String.{String}
 use mathlib.Core.List.{List, [], _∷_}
 use mathlib.Core.Bool.{Bool, true, false, _||_}
-use Rattle.fields.specs.Bytes.{every, same, text, isDigit, isZero, isBlank, isText, isDigitOrBlank}
+use Rattle.fields.specs.Bytes.{every, same, text, isDigit, isZero, isText}
 use Rattle.fields.specs.Accounts.{accountOf, isRight}
-use Rattle.fields.specs.Kids.{atRight, isKid}
+use Rattle.fields.specs.Kids.{isKid}
 
 pub record Rule : Type 0 where
   pub test : List ℕ → Bool
@@ -27,13 +27,6 @@ zeros = rule (every isZero) 7
 abbrev pub textual : Rule
 textual = rule (every isText) 8
 
--- every byte a digit or blank, else 8
-abbrev pub digitsOrBlanks : Rule
-digitsOrBlanks = rule (every isDigitOrBlank) 8
-
-abbrev pub blank : Rule
-blank = rule (every isBlank) 8
-
 -- a fixed text, else 7
 abbrev pub fixed : String → Rule
 fixed t = rule (λ s. same s (text t)) 7
@@ -53,7 +46,3 @@ rightAccount = rule (λ s. isRight (accountOf s)) 11
 -- a KID at either end, else 8
 abbrev pub kid : Rule
 kid = rule isKid 8
-
--- service 01: blank, or a KID at the right end, else 8
-abbrev pub blankOrKid : Rule
-blankOrKid = rule (λ s. every isBlank s || atRight s) 8

@@ -4,28 +4,20 @@ use Prim.Native.Nat.{ℕ}
 use mathlib.Core.Path.{_≡_, refl, ap, sym, _∙_}
 use mathlib.Core.List.{List, [], _∷_, _++_}
 use mathlib.Core.Bool.{Bool, true, false, not, _&&_, _||_}
-use native.Mathlib.Omega.{arith}
 use Rattle.choice.specs.Choice.{if_then_else_}
 use Rattle.figures.specs.declared.totals.Totals.{Totals}
 use Rattle.layout.specs.Findings.{orElse}
 use Rattle.layout.specs.Rows.{Row, firstFault}
 use Rattle.layout.specs.declared.Finding.{Finding}
 use Rattle.layout.specs.declared.Finding.the-variants.{Sound, Fault}
-use Rattle.layout.proofs.Laws.{pieces}
-
-pub fault-not-sound : (n k : ℕ) → Fault n k ≡ Sound → ⊥
-fault-not-sound n k e = let z : _≡_ {A = ℕ} 0 1 = cc in omega arith
+use Rattle.layout.proofs.Laws.{pieces, or-else-both}
 
 -- where two stages together are sound, each is
-both-sound : (a b : Finding) → orElse a b ≡ Sound → (a ≡ Sound) × (b ≡ Sound)
-both-sound Sound b h = (refl, h)
-both-sound (Fault n k) b h = absurd (fault-not-sound n k h)
-
 pub first-sound : (a b x : Finding) → x ≡ orElse a b → x ≡ Sound → a ≡ Sound
-first-sound a b x e h = both-sound a b (sym e ∙ h) .0
+first-sound a b x e h = or-else-both a b (sym e ∙ h) .0
 
 pub second-sound : (a b x : Finding) → x ≡ orElse a b → x ≡ Sound → b ≡ Sound
-second-sound a b x e h = both-sound a b (sym e ∙ h) .1
+second-sound a b x e h = or-else-both a b (sym e ∙ h) .1
 
 -- a table in six pieces
 pub six-pieces : (f : Totals) (ks r : List ℕ) (a b c d e z : List Row)

@@ -2,11 +2,11 @@
 -- Assumes nothing.
 use Prim.Native.Nat.{ℕ, _+_}
 use mathlib.Core.List.{List, [], _∷_, _++_}
-use mathlib.Core.Bool.{Bool, not}
+use mathlib.Core.Bool.{not}
 use lib.Dec.{eqb}
 use Rattle.choice.specs.Choice.{if_then_else_}
 use Rattle.fields.specs.Bytes.{same, part}
-use Rattle.fields.specs.Numbers.{value, codeOf}
+use Rattle.fields.specs.Numbers.{value}
 use Rattle.dates.specs.Dates.{ddmmyy}
 use Rattle.dates.specs.Windows.{inTime}
 use Rattle.dates.specs.declared.Window.{Window}

@@ -18,7 +18,7 @@ use Rattle.dates.specs.declared.Service.the-variants.{Autogiro, Remittance}
 use Rattle.figures.specs.Figures.{amount, limit04, limitWide}
 use Rattle.figures.specs.declared.amounts.Amount.{Amount}
 use Rattle.layout.specs.Rows.{member}
-use Rattle.layout.specs.Rules.{Rule, rule, blank, kid, blankOrKid}
+use Rattle.layout.specs.Rules.{Rule, rule}
 
 -- the types in record 30, for a service's code
 abbrev pub typesFor : ℕ → List ℕ

@@ -2,7 +2,7 @@
 -- Assumes nothing.
 use Prim.Native.Nat.{ℕ, zero, suc, _+_, _/_, _%_}
 use mathlib.Core.List.{List, [], _∷_, _++_}
-use mathlib.Core.Bool.{Bool, true, false, not, _||_}
+use mathlib.Core.Bool.{Bool, true, not, _||_}
 use lib.Dec.{leb, eqb}
 use lib.ListN.{length, take, drop}
 use Rattle.choice.specs.Choice.{if_then_else_}
@@ -12,11 +12,9 @@ use Rattle.dates.specs.declared.Window.{Window}
 use Rattle.dates.specs.declared.Opening.{Opening}
 use Rattle.dates.specs.declared.Opening.the-variants.{Open, NoDay}
 use Rattle.figures.specs.Groups.{gives}
-use Rattle.figures.specs.declared.totals.Totals.{Totals}
 use Rattle.layout.specs.Rows.{firstFault}
 use Rattle.layout.specs.declared.Finding.{Finding}
 use Rattle.layout.specs.declared.Finding.the-variants.{Sound, Fault}
-use Rattle.rules.specs.Codes.{kindOf}
 use Rattle.rules.specs.Order.{mayEnd}
 use Rattle.rules.specs.Layouts.{tableFor, rows}
 use Rattle.rules.specs.Growth.{keys, after, afterFor, start}
@@ -27,7 +25,6 @@ use Rattle.rules.specs.declared.Assignment.{Assignment}
 use Rattle.rules.specs.declared.State.{State}
 use Rattle.rules.specs.declared.Step.{Step}
 use Rattle.rules.specs.declared.Step.the-variants.{Next, Stop}
-use Rattle.rules.specs.declared.Refusal.{Refusal}
 use Rattle.rules.specs.declared.Verdict.{Verdict}
 use Rattle.rules.specs.declared.Verdict.the-variants.{Accepted, Refused}
 

@@ -1,4 +1,4 @@
--- Tables put together piece by piece as the code does; the keys looked through one by one; what an account says of its two rows; one of two texts.
+-- The keys looked through one by one; what an account says of its two rows; one of two texts.
 -- Assumes nothing.
 use Prim.Native.Nat.{ℕ, _+_, _*_, _≤_, _<_}
 use Prim.Native.String.{String}
@@ -29,16 +29,6 @@ use Rattle.layout.specs.declared.Finding.the-variants.{Sound, Fault}
 use Rattle.layout.proofs.Laws.{pieces, rows-behind, inTurn, demands, next, stop, ended}
 use Rattle.rules.specs.Codes.{keyIn}
 use Rattle.starts.specs.Stages.{head20, account20, accountFinding}
-
--- ---- pieces
-module _ (f : Totals) (ks r : List ℕ) where
-  -- a piece behind what was found
-  pub then-piece : (ws vs : List Row) {x : Finding} → firstFault f ks r ws ≡ x → firstFault f ks r (ws ++ vs) ≡ orElse x (firstFault f ks r vs)
-  then-piece ws vs e = pieces f ks r ws vs ∙ ap (λ (y : Finding). orElse y (firstFault f ks r vs)) e
-
-  -- single rows behind what was found
-  pub then-rows : (ws vs : List Row) {x : Finding} → firstFault f ks r ws ≡ x → firstFault f ks r (ws ++ vs) ≡ inTurn f ks r x vs
-  then-rows ws vs e = rows-behind f ks r ws vs ∙ ap (λ (y : Finding). inTurn f ks r y vs) e
 
 -- ---- keys
 module _ (key : ℕ) (s : List ℕ) (i : ℕ) where

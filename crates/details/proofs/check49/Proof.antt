@@ -7,7 +7,8 @@ use Rattle.layout.specs.Rules.{fixed, textual, zeros}
 use Rattle.layout.specs.Rows.{Row, at}
 use Rattle.rules.specs.Layouts.{repeats}
 use Rattle.details.specs.Pieces.{place49}
-use Rattle.details.proofs.Soundness.{or-else-both, demanded-both, around}
+use Rattle.layout.proofs.Laws.{or-else-both, demanded-both}
+use Rattle.details.proofs.Soundness.{around}
 use Rattle.details.proofs.check49.Statement.{statement}
 use Rattle.details.proofs.check49.Tie as tie
 

@@ -6,7 +6,8 @@ use borrow.Author.Needs.{needs}
 use Rattle.layout.specs.Rules.{kid, zeros}
 use Rattle.layout.specs.Rows.{Row, at}
 use Rattle.details.specs.Pieces.{head50, sum50}
-use Rattle.details.proofs.Soundness.{or-else-both, demanded-both, around}
+use Rattle.layout.proofs.Laws.{or-else-both, demanded-both}
+use Rattle.details.proofs.Soundness.{around}
 use Rattle.details.proofs.check50.Statement.{statement}
 use Rattle.details.proofs.check50.Tie as tie
 

@@ -14,7 +14,8 @@ use Rattle.rules.specs.Messages.{placeIn, taken, withPlace}
 use Rattle.rules.specs.Payments.{isLine, isColumn}
 use Rattle.details.specs.Pieces.{upTo, place49}
 use Rattle.details.proofs.Bounds.{up-to-yes, bounded, above-zero, line-test, column-test}
-use Rattle.details.proofs.Soundness.{demanded-both, counts-behind}
+use Rattle.layout.proofs.Laws.{demanded-both}
+use Rattle.details.proofs.Soundness.{counts-behind}
 use Rattle.details.proofs.placing.Statement.{statement}
 use Rattle.details.proofs.placing.Tie as tie
 

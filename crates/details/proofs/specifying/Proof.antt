@@ -10,7 +10,7 @@ use Rattle.layout.specs.Findings.{demanded}
 use Rattle.layout.specs.declared.Finding.the-variants.{Sound}
 use Rattle.layout.proofs.Laws.{next, stop, demands, digits-pass, digits-fail, value-is}
 use Rattle.rules.specs.Codes.{typeCode}
-use Rattle.details.proofs.Soundness.{fault-not-sound}
+use Rattle.layout.proofs.Laws.{fault-not-sound}
 use Rattle.details.proofs.specifying.Statement.{statement}
 use Rattle.details.proofs.specifying.Tie as tie
 

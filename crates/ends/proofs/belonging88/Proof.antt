@@ -6,7 +6,7 @@ use Rattle.layout.specs.Rules.{fixed}
 use Rattle.layout.specs.Rows.{Row, at}
 use Rattle.layout.proofs.Laws.{demands}
 use Rattle.rules.specs.Layouts.{groupGives, belongs}
-use Rattle.ends.proofs.Laws.{then-piece, then-rows}
+use Rattle.layout.proofs.Laws.{then-piece, then-rows}
 use borrow.Author.Needs.{needs}
 use Rattle.ends.proofs.belonging88.Statement.{statement}
 use Rattle.ends.proofs.belonging88.Tie as tie

@@ -8,7 +8,7 @@ use Rattle.layout.specs.Rows.{Row, at}
 use Rattle.layout.proofs.Laws.{pieces}
 use Rattle.rules.specs.Layouts.{own}
 use Rattle.ends.specs.Stages.{head88, figuresIn}
-use Rattle.ends.proofs.Laws.{then-piece, then-rows}
+use Rattle.layout.proofs.Laws.{then-piece, then-rows}
 use borrow.Author.Needs.{needs}
 use Rattle.ends.proofs.check88.Statement.{statement}
 use Rattle.ends.proofs.check88.Tie as tie

@@ -6,7 +6,8 @@ use Rattle.layout.specs.Rules.{zeros}
 use Rattle.layout.specs.Rows.{at}
 use Rattle.layout.proofs.Laws.{pieces}
 use Rattle.ends.specs.Stages.{head89, figuresIn}
-use Rattle.ends.proofs.Laws.{then-rows, file-as-own}
+use Rattle.layout.proofs.Laws.{then-rows}
+use Rattle.ends.proofs.Laws.{file-as-own}
 use borrow.Author.Needs.{needs}
 use Rattle.ends.proofs.check89.Statement.{statement}
 use Rattle.ends.proofs.check89.Tie as tie

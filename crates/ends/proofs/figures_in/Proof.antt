@@ -7,7 +7,7 @@ use Rattle.dates.specs.Dates.{ddmmyy}
 use Rattle.layout.specs.Rows.{Row}
 use Rattle.layout.proofs.Laws.{pieces}
 use Rattle.rules.specs.Layouts.{own}
-use Rattle.ends.proofs.Laws.{then-piece}
+use Rattle.layout.proofs.Laws.{then-piece}
 use borrow.Author.Needs.{needs}
 use Rattle.ends.proofs.figures_in.Statement.{statement}
 use Rattle.ends.proofs.figures_in.Tie as tie

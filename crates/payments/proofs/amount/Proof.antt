@@ -10,7 +10,7 @@ use Rattle.layout.specs.declared.Finding.the-variants.{Sound}
 use Rattle.layout.proofs.Laws.{next, stop, demands, digits-pass, digits-fail, value-is}
 use Rattle.rules.specs.Codes.{typeCode}
 use Rattle.rules.specs.Payments.{ownLimit, limitFor}
-use Rattle.payments.proofs.Stages.{fault-not-sound}
+use Rattle.layout.proofs.Laws.{fault-not-sound}
 use Rattle.payments.proofs.amount.Statement.{statement}
 use Rattle.payments.proofs.amount.Tie as tie
 

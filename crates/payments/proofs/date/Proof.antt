@@ -9,7 +9,7 @@ use Rattle.layout.specs.Findings.{demanded}
 use Rattle.layout.specs.declared.Finding.the-variants.{Sound}
 use Rattle.layout.proofs.Laws.{next, stop, demands, digits-pass, digits-fail, value-is}
 use Rattle.rules.specs.Payments.{isDay, theDate}
-use Rattle.payments.proofs.Stages.{fault-not-sound}
+use Rattle.layout.proofs.Laws.{fault-not-sound}
 use Rattle.payments.proofs.date.Statement.{statement}
 use Rattle.payments.proofs.date.Tie as tie
 

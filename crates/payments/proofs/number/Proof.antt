@@ -12,7 +12,7 @@ use Rattle.figures.specs.Figures.{transactionNumber, follows}
 use Rattle.layout.specs.Findings.{demanded}
 use Rattle.layout.specs.declared.Finding.the-variants.{Sound}
 use Rattle.layout.proofs.Laws.{next, stop, demands, digits-pass, digits-fail, value-is}
-use Rattle.payments.proofs.Stages.{fault-not-sound}
+use Rattle.layout.proofs.Laws.{fault-not-sound}
 use Rattle.payments.proofs.number.Statement.{statement}
 use Rattle.payments.proofs.number.Tie as tie
 

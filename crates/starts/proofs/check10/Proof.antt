@@ -6,7 +6,7 @@ use Rattle.layout.specs.Rules.{digits, fixed, zeros}
 use Rattle.layout.specs.Rows.{Row, at}
 use Rattle.layout.proofs.Laws.{pieces}
 use Rattle.starts.specs.Stages.{head10}
-use Rattle.starts.proofs.Laws.{then-piece, then-rows}
+use Rattle.layout.proofs.Laws.{then-piece, then-rows}
 use borrow.Author.Needs.{needs}
 use Rattle.starts.proofs.check10.Statement.{statement}
 use Rattle.starts.proofs.check10.Tie as tie

@@ -7,7 +7,7 @@ use Rattle.layout.specs.Rules.{zeros}
 use Rattle.layout.specs.Rows.{Row, at}
 use Rattle.layout.proofs.Laws.{pieces}
 use Rattle.starts.specs.Stages.{opens, head20, newKey, account20}
-use Rattle.starts.proofs.Laws.{then-piece, then-rows}
+use Rattle.layout.proofs.Laws.{then-piece, then-rows}
 use borrow.Author.Needs.{needs}
 use Rattle.starts.proofs.check20.Statement.{statement}
 use Rattle.starts.proofs.check20.Tie as tie
