@@ -4,3 +4,6 @@ pub mod Values
 pub mod Width
 pub mod Weights
 pub mod Runs
+pub mod WordTests
+pub mod WordValues
+pub mod WordBytes

@@ -17,13 +17,13 @@ use Rattle.fields.proofs.Every.{digit-low, digit-high, digit-is}
 use Rattle.fields.proofs.Values.{number-is, number-yes}
 
 -- what was read before counts 10 ^ width times
-value-split : (a : ℕ) (s : List ℕ) → valueFrom a s ≡ a * 10 ^ length s + value s
+pub value-split : (a : ℕ) (s : List ℕ) → valueFrom a s ≡ a * 10 ^ length s + value s
 unfolding valueFrom
 value-split a [] = omega arith
 value-split a (b ∷ s) =
     simp (value-split (a * 10 + (b - 48)) s, zero-mul, zero-add, value-split (b - 48) s, pow-succ', add-mul, mul-assoc, add-assoc)
 
-value-below : (s : List ℕ) → every isDigit s ≡ true → value s < 10 ^ length s
+pub value-below : (s : List ℕ) → every isDigit s ≡ true → value s < 10 ^ length s
 unfolding every valueFrom
 value-below [] h = lit< tt
 value-below (b ∷ s) h =

@@ -4,3 +4,4 @@ pub mod Numbers
 pub mod Accounts
 pub mod Kids
 pub mod OnTheWay
+pub mod Words

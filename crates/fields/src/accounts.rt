@@ -5,8 +5,7 @@ ghost use Prim.Native.Nat.{_<_};
 ghost use lib.ListN.{length};
 ghost use Rattle.fields.specs.Accounts.{weights, rightDigit, judged, accountOf};
 ghost use Rattle.fields.specs.OnTheWay.{weighed};
-use super::classes::Class;
-use super::classes::all_in;
+use super::words::eleven_digits;
 
 pub enum Account {
     Right,
@@ -21,7 +20,7 @@ pub fn account_of(s: &[u8]) -> Account
     requires { ⌜ length (now s) ≡ 11 ⌝ }
     ensures { λ r. ⌜ r ≡ accountOf (now (s .entry)) ⌝ }
 {
-    if !all_in(Class::Digit, s) {
+    if !eleven_digits(s) {
         return Account::NotDigits;
     }
     // 1968 is 48 times the weights: what the bytes have over their digits

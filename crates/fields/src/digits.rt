@@ -14,7 +14,27 @@ pub enum Digits {
     NotDigits,
 }
 
+// Six to nine bytes are read by words.
 pub fn number(s: &[u8]) -> Digits
+    requires { ⌜ length (now s) ≤ 17 ⌝ }
+    ensures { λ r. ⌜ r ≡ numberOf (now (s .entry)) ⌝ }
+{
+    if s.len() == 8 {
+        return super::words::eight(s);
+    }
+    if s.len() == 7 {
+        return super::words::seven(s);
+    }
+    if s.len() == 6 {
+        return super::words::six(s);
+    }
+    if s.len() == 9 {
+        return super::words::nine(s);
+    }
+    by_bytes(s)
+}
+
+fn by_bytes(s: &[u8]) -> Digits
     requires { ⌜ length (now s) ≤ 17 ⌝ }
     ensures { λ r. ⌜ r ≡ numberOf (now (s .entry)) ⌝ }
 {

@@ -6,4 +6,5 @@ pub mod digits;
 pub mod kids;
 pub mod places;
 pub mod texts;
+mod words;
 pub mod writing;

@@ -15,21 +15,21 @@ use Rattle.fields.proofs.accounts.account_of.Reads as reads
 use Rattle.fields.proofs.accounts.account_of.Lts as lts
 use Rattle.fields.proofs.accounts.judge.Reads as judge-reads
 use Rattle.fields.proofs.accounts.weigh.Reads as weigh-reads
-use Rattle.fields.proofs.classes.all_in.Reads as all-in-reads
+use Rattle.fields.proofs.words.eleven_digits.Reads as eleven-digits-reads
 
 -- past the test, all bytes are digits
 digits : (c : tie.Else1) → every isDigit (c .before .before .before .args .s .now) ≡ true
-digits c = sym (c .before .all-in .ensures) ∙ not-false _ (c .if1 .left)
+digits c = sym (c .before .eleven-digits .ensures) ∙ not-false _ (c .if1 .left)
 
 -- the bytes' sum is 1968 over the digits'
 sum : (c : tie.After-weigh) → let s = c .before .before .before .before .before .args .s .now in c .weigh .result ≡ weighted weights s + 1968
 sum c = c .weigh .ensures ∙ digits-over _ (c .before .before .before .before .before .pre) (digits (c .before .before))
 
-all-in-requires : tie.Need-all-in-requires
-all-in-requires c κs = search needs
+eleven-digits-requires : tie.Need-eleven-digits-requires
+eleven-digits-requires c κs = search needs
 
 returns : tie.Need-returns
-returns c = sym (no-digits _ (sym (c .before .all-in .ensures) ∙ not-true _ (c .if1 .taken)))
+returns c = sym (no-digits _ (sym (c .before .eleven-digits .ensures) ∙ not-true _ (c .if1 .taken)))
 
 shared-slice-read-judge : tie.Need-shared-slice-read-judge
 shared-slice-read-judge c = search needs
@@ -61,7 +61,7 @@ pub account-of-spec : {M : Type 1} → statement M
 account-of-spec =
     tie.close
     (tie.spec
-    all-in-requires
+    eleven-digits-requires
     returns
     shared-slice-read-judge
     sub-judge

@@ -3,10 +3,10 @@ use borrow.Author.Tests.{not-true, not-false}
 use Rattle.fields.specs.declared.digits.Digits.the-variants.{Number}
 use Rattle.fields.proofs.Values.{number-yes, number-no}
 use borrow.Author.Needs.{needs}
-use Rattle.fields.proofs.digits.number.Statement.{statement}
-use Rattle.fields.proofs.digits.number.Tie as tie
-use Rattle.fields.proofs.digits.number.Reads as reads
-use Rattle.fields.proofs.digits.number.Lts as lts
+use Rattle.fields.proofs.digits.by_bytes.Statement.{statement}
+use Rattle.fields.proofs.digits.by_bytes.Tie as tie
+use Rattle.fields.proofs.digits.by_bytes.Reads as reads
+use Rattle.fields.proofs.digits.by_bytes.Lts as lts
 use Rattle.fields.proofs.classes.all_in.Reads as all-in-reads
 use Rattle.fields.proofs.digits.value_of.Reads as value-of-reads
 
@@ -24,5 +24,5 @@ returns-2 c =
     ap Number (c .value-of .ensures)
     ∙ sym (number-yes _ (sym (c .before .before .all-in .ensures) ∙ not-false _ (c .before .if1 .left)))
 
-pub number-spec : {M : Type 1} → statement M
-number-spec = tie.close (tie.spec all-in-requires returns value-of-requires returns-2)
+pub by-bytes-spec : {M : Type 1} → statement M
+by-bytes-spec = tie.close (tie.spec all-in-requires returns value-of-requires returns-2)
