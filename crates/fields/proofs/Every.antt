@@ -12,7 +12,7 @@ use lib.Dec.{leb, eqb}
 use lib.ListN.{length, getD, drop, drop-of-length-le}
 use lib.Seq.{drop-cons}
 use Rattle.fields.specs.Bytes.{every, same, isDigit}
-use Rattle.fields.proofs.Tests.{and-left, and-right, and-both}
+use Rattle.fields.proofs.Tests.{and-left, and-right, and-both, one-more, none-left}
 
 module _ (f : ℕ → Bool) (s : List ℕ) (i : ℕ) where
   pub every-next : i < length s → f (getD s i 0) && every f (drop (i + 1) s) ≡ every f (drop i s)
@@ -39,6 +39,12 @@ module _ (s t : List ℕ) (i : ℕ) where
   pub same-end : length s ≤ i → length t ≤ i → same (drop i s) (drop i t) ≡ true
   unfolding same
   same-end h k = rw (drop-of-length-le s h, drop-of-length-le t k)
+
+-- two fields of two bytes, by their bytes
+pub same-two : (s t : List ℕ) → length s ≡ 2 → length t ≡ 2 → eqb (getD s 0 0) (getD t 0 0) && eqb (getD s 1 0) (getD t 1 0) ≡ same s t
+same-two s t h k =
+    none-left _ _ _ (same-end s t 2 (omega arith) (omega arith))
+    (one-more (eqb (getD s 0 0) (getD t 0 0)) (eqb (getD s 1 0) (getD t 1 0)) _ _ _ (same-next s t 1 (omega arith) (omega arith)) (same-next s t 0 (omega arith) (omega arith)))
 
 -- the test of sameness means what it says
 pub same-is : (s t : List ℕ) → same s t ≡ true → s ≡ t

@@ -43,3 +43,10 @@ isRight Right = true
 isRight (WrongDigit d) = false
 isRight NoRightDigit = false
 isRight NotDigits = false
+
+-- the field is digits: the test of refusal 8
+abbrev pub isNumber : Account → Bool
+isNumber Right = true
+isNumber (WrongDigit d) = true
+isNumber NoRightDigit = true
+isNumber NotDigits = false

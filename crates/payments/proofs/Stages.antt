@@ -4,7 +4,12 @@ use Prim.Native.Nat.{ℕ}
 use mathlib.Core.Path.{_≡_, refl, ap, sym, _∙_}
 use mathlib.Core.List.{List, [], _∷_, _++_}
 use mathlib.Core.Bool.{Bool, true, false, not, _&&_, _||_}
+use lib.Dec.{eqb}
 use Rattle.choice.specs.Choice.{if_then_else_}
+use Rattle.fields.specs.Bytes.{every, isDigit}
+use Rattle.fields.specs.Accounts.{remainder, rightDigit, lastDigit, judged, accountOf, isNumber}
+use Rattle.fields.specs.declared.accounts.Account.{Account}
+use Rattle.fields.specs.declared.accounts.Account.the-variants.{Right, WrongDigit, NoRightDigit, NotDigits}
 use Rattle.figures.specs.declared.totals.Totals.{Totals}
 use Rattle.layout.specs.Findings.{orElse}
 use Rattle.layout.specs.Rows.{Row, firstFault}
@@ -37,3 +42,21 @@ pub excused : (one reference four : Bool) → (one && reference || not one && fo
 excused true true four = refl
 excused true false four = refl
 excused false reference four = refl
+
+judged-by : (none right : Bool) (d : ℕ) → isNumber (if none then NoRightDigit else (if right then Right else WrongDigit d)) ≡ true
+judged-by true right d = refl
+judged-by false true d = refl
+judged-by false false d = refl
+
+judged-number : (l r : ℕ) → isNumber (judged l r) ≡ true
+unfolding judged
+judged-number l r = judged-by (eqb r 1) (eqb l (rightDigit r)) (rightDigit r)
+
+numbers-only : (digits : Bool) (x : Account) → isNumber x ≡ true → isNumber (if digits then x else NotDigits) ≡ digits
+numbers-only true x h = h
+numbers-only false x h = refl
+
+-- an account tells whether its field is digits
+pub number-in-account : (s : List ℕ) → isNumber (accountOf s) ≡ every isDigit s
+unfolding accountOf
+number-in-account s = numbers-only (every isDigit s) _ (judged-number (lastDigit s) (remainder s))

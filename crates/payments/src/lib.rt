@@ -7,7 +7,7 @@ ghost use Prim.Native.Nat.{ℕ};
 ghost use lib.Dec.{eqb};
 ghost use lib.ListN.{length};
 ghost use Rattle.fields.specs.Bytes.{part};
-ghost use Rattle.fields.specs.Accounts.{isRight};
+ghost use Rattle.fields.specs.Accounts.{isRight, isNumber};
 ghost use Rattle.fields.specs.Kids.{atRight, isReference};
 ghost use Rattle.layout.specs.Rules.{zeros};
 ghost use Rattle.layout.specs.Rows.{at, member, firstFault};
@@ -139,6 +139,17 @@ fn is_right(account: Account) -> bool
     }
 }
 
+fn is_number(account: Account) -> bool
+    ensures { λ x. ⌜ x ≡ isNumber account ⌝ }
+{
+    match account {
+        Account::Right => true,
+        Account::WrongDigit(_digit) => true,
+        Account::NoRightDigit => true,
+        Account::NotDigits => false,
+    }
+}
+
 // Field 7 is a reference, which service 01 takes.
 fn referred(r: &[u8], service: u8) -> bool
     requires { ⌜ length (now r) ≡ 81 ⌝ }
@@ -158,13 +169,10 @@ fn party(r: &[u8]) -> Finding
     let service = fields::places::code_at(r, 3);
     let code = fields::places::code_at(r, 5);
     let reference = referred(r, service);
-    let right = is_right(fields::places::account_at(r, 22, 32));
+    let account = fields::places::account_at(r, 22, 32);
+    let right = is_right(account);
     Finding::Sound
-        .demand(
-            fields::places::all_at(Class::Digit, r, 22, 32) | reference,
-            8,
-            7,
-        )
+        .demand(is_number(account) | reference, 8, 7)
         .demand(right | (reference | ((service != 1) & (code == 4))), 11, 7)
 }
 

@@ -17,7 +17,7 @@ use Rattle.layout.proofs.Laws.{demands}
 use Rattle.rules.specs.Codes.{serviceCode, typeCode}
 use Rattle.rules.specs.Payments.{partyForm, partyRight}
 use Rattle.rules.specs.Layouts.{party30}
-use Rattle.payments.proofs.Stages.{excused}
+use Rattle.payments.proofs.Stages.{excused, number-in-account}
 use Rattle.payments.proofs.party.Statement.{statement}
 use Rattle.payments.proofs.party.Tie as tie
 
@@ -47,8 +47,8 @@ account-at-requires c κs = search needs
 is-right-requires : tie.Need-is-right-requires
 is-right-requires c κs = search needs
 
-all-at-requires : tie.Need-all-at-requires
-all-at-requires c κs = search needs
+is-number-requires : tie.Need-is-number-requires
+is-number-requires c κs = search needs
 
 demand-requires : tie.Need-demand-requires
 demand-requires c κs = search needs
@@ -60,7 +60,7 @@ returns : tie.Need-returns
 returns c = λ f ks.
     let p = c .before .before .before in
     let q = p .before .before in
-    simp (c .demand2 .ensures, c .before .demand .ensures, c .before .before .all-at .ensures, p .is-right .ensures, p .before .account-at .ensures, q .referred .ensures, q .before .code-at2 .ensures, q .before .before .code-at .ensures)
+    simp (c .demand2 .ensures, c .before .demand .ensures, c .before .before .is-number .ensures, p .is-right .ensures, p .before .account-at .ensures, q .referred .ensures, q .before .code-at2 .ensures, q .before .before .code-at .ensures, number-in-account (part 22 32 (q .before .before .before .before .args .r .now)))
     (sym (as-code f ks (q .before .before .before .before .args .r .now)))
 
 pub party-spec : {M : Type 1} → statement M
@@ -72,7 +72,7 @@ party-spec =
     referred-requires
     account-at-requires
     is-right-requires
-    all-at-requires
+    is-number-requires
     demand-requires
     demand-requires-2
     returns)

@@ -1,60 +1,43 @@
 use borrow.Author.Needs.{needs}
-use Prim.Native.Nat.{_≤_, _-_, zero-le}
-use mathlib.Core.Path.{_≡_, refl, sym, _∙_}
-use mathlib.Core.Bool.{_&&_}
 use native.Mathlib.Omega.{arith}
-use lib.ListN.{length, drop}
-use Rattle.fields.specs.Bytes.{same}
-use Rattle.fields.proofs.Tests.{one-more, none-left}
-use Rattle.fields.proofs.Every.{same-next, same-end}
+use Rattle.fields.proofs.Every.{same-two}
 use Rattle.fields.proofs.texts.same_bytes.Statement.{statement}
 use Rattle.fields.proofs.texts.same_bytes.Tie as tie
 use Rattle.fields.proofs.texts.same_bytes.Reads as reads
 use Rattle.fields.proofs.texts.same_bytes.Lts as lts
+use Rattle.fields.proofs.texts.each_same.Reads as each-same-reads
 
-abbrev Inv-loop : tie.InvT-loop
-Inv-loop s t ok₀ i₀ ok i = (i ≤ length s) × (ok && same (drop i s) (drop i t) ≡ same s t)
+shared-slice-read-result : tie.Need-shared-slice-read-result
+shared-slice-read-result c = search needs
 
-abbrev μ-loop : tie.MeasureT-loop
-μ-loop s t ok₀ i₀ ok i = length s - i
+shared-slice-read-result-2 : tie.Need-shared-slice-read-result-2
+shared-slice-read-result-2 c = search needs
 
-loop-holds : tie.Need-loop-holds Inv-loop μ-loop
-loop-holds c = (zero-le, refl)
+shared-slice-read-result-3 : tie.Need-shared-slice-read-result-3
+shared-slice-read-result-3 c = search needs
 
-shared-slice-read-ok : tie.Need-shared-slice-read-ok Inv-loop μ-loop
-shared-slice-read-ok c = search needs
+shared-slice-read-result-4 : tie.Need-shared-slice-read-result-4
+shared-slice-read-result-4 c = search needs
 
-shared-slice-read-ok-2 : tie.Need-shared-slice-read-ok-2 Inv-loop μ-loop
-shared-slice-read-ok-2 c = search needs
-
-add-i : tie.Need-add-i Inv-loop μ-loop
-add-i c = search needs
-
-loop-less : tie.Need-loop-less Inv-loop μ-loop
-loop-less c = search needs
-
-loop-again : tie.Need-loop-again Inv-loop μ-loop
-loop-again c =
-    let p = c .before .before .before in
-    let a = p .before .args in
-    (omega arith, one-more (p .loop .ok) _ _ _ _ (same-next (a .s .now) (a .t .now) (p .loop .i) (omega arith) (omega arith)) (p .loop .inv .1))
-
-returns : tie.Need-returns Inv-loop μ-loop
+returns : tie.Need-returns
 returns c =
-    let p = c .before in
-    let a = p .before .args in
-    none-left (p .loop .ok) _ _ (same-end (a .s .now) (a .t .now) (p .loop .i) (omega arith) (omega arith)) (p .loop .inv .1)
+    let a = c .before .before .before .before .before .before .before .args in
+    same-two (a .s .now) (a .t .now) (omega arith) (omega arith)
+
+each-same-requires : tie.Need-each-same-requires
+each-same-requires c κs = search needs
+
+returns-2 : tie.Need-returns-2
+returns-2 c = search needs
 
 pub same-bytes-spec : {M : Type 1} → statement M
 same-bytes-spec =
     tie.close
     (tie.spec
-    Inv-loop
-    μ-loop
-    loop-holds
-    shared-slice-read-ok
-    shared-slice-read-ok-2
-    add-i
-    loop-less
-    loop-again
-    returns)
+    shared-slice-read-result
+    shared-slice-read-result-2
+    shared-slice-read-result-3
+    shared-slice-read-result-4
+    returns
+    each-same-requires
+    returns-2)
