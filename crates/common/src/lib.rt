@@ -1,4 +1,4 @@
-// Fields that several record types share: where a record belongs, and what it repeats of its record 30.
+// Fields that several record types share: the head outside assignments, where a record belongs, and what it repeats of its record 30.
 
 ghost use mathlib.Core.Path.{_≡_};
 ghost use mathlib.Core.List.{List};
@@ -8,6 +8,7 @@ ghost use Rattle.figures.specs.Figures.{transactionNumber};
 ghost use Rattle.layout.specs.Rows.{firstFault};
 ghost use Rattle.rules.specs.Codes.{codeFor};
 ghost use Rattle.rules.specs.Layouts.{belongs, sameNumber, repeats};
+ghost use Rattle.common.specs.Heads.{outside};
 use dates::Service;
 use fields::digits::Digits;
 use figures::counts::TransactionNumber;
@@ -30,6 +31,17 @@ pub fn numbered(n: u64) -> TransactionNumber
     ensures { λ x. ⌜ x ≡ transactionNumber n ⌝ }
 {
     TransactionNumber(n as u32)
+}
+
+// Fields 1 to 3 of 10 and 89.
+pub fn outside(r: &[u8]) -> Finding
+    requires { ⌜ length (now r) ≡ 81 ⌝ }
+    ensures { λ x. ⌜ ((f : Totals) (ks : List ℕ) → x ≡ firstFault f ks (now (r .entry)) outside) ⌝ }
+{
+    Finding::Sound
+        .demand(fields::places::same_at(r, 1, 2, b"NY"), 7, 1)
+        .demand(fields::places::same_at(r, 3, 4, b"00"), 7, 2)
+        .demand(fields::places::same_at(r, 5, 6, b"00"), 7, 3)
 }
 
 // Fields 1 and 2 within an assignment.

@@ -10,10 +10,11 @@ use Rattle.layout.specs.Rows.{Row, at, firstFault}
 use Rattle.layout.specs.declared.Finding.{Finding}
 use Rattle.layout.proofs.Laws.{pieces, rows-behind, inTurn}
 use Rattle.rules.specs.Layouts.{record89}
-use Rattle.ends.specs.Stages.{head89, figuresIn}
+use Rattle.common.specs.Heads.{outside}
+use Rattle.ends.specs.Stages.{figuresIn}
 
 module _ (f : Totals) (ks r : List ℕ) where
   -- record 89 tests the file's figures as 88 tests its assignment's
-  pub file-as-own : firstFault f ks r (record89 r) ≡ firstFault f ks r ((head89 ++ figuresIn r f) ++ (at 9 48 80 zeros ∷ []))
+  pub file-as-own : firstFault f ks r (record89 r) ≡ firstFault f ks r ((outside ++ figuresIn r f) ++ (at 9 48 80 zeros ∷ []))
   unfolding firstFault
   file-as-own = refl

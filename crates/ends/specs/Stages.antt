@@ -13,14 +13,6 @@ use Rattle.rules.specs.declared.Assignment.{Assignment}
 abbrev pub head88 : Assignment → List ℕ → List Row
 head88 a r = (groupGives a ∷ belongs a r) ++ (at 3 5 6 (fixed "00") ∷ [])
 
--- fields 1 to 3 of record 89
-abbrev pub head89 : List Row
-head89 =
-    at 1 1 2 (fixed "NY") ∷
-    at 2 3 4 (fixed "00") ∷
-    at 3 5 6 (fixed "00") ∷
-    []
-
 -- fields 5 to 8 of either, against the totals up to it
 abbrev pub figuresIn : List ℕ → Totals → List Row
 figuresIn r t =

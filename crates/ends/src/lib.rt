@@ -7,7 +7,7 @@ ghost use lib.ListN.{length};
 ghost use Rattle.fields.specs.Bytes.{Inside};
 ghost use Rattle.layout.specs.Rows.{firstFault};
 ghost use Rattle.rules.specs.Layouts.{own, record88, record89};
-ghost use Rattle.ends.specs.Stages.{head88, head89, figuresIn};
+ghost use Rattle.ends.specs.Stages.{head88, figuresIn};
 use fields::classes::Class;
 use fields::digits::Digits;
 use figures::counts::Count;
@@ -68,22 +68,11 @@ pub fn check88(r: &[u8], a: Assignment) -> Finding
         .demand(fields::places::all_at(Class::Zero, r, 54, 80), 7, 10)
 }
 
-// Fields 1 to 3 of a record 89.
-fn fixed89(r: &[u8]) -> Finding
-    requires { ⌜ length (now r) ≡ 81 ⌝ }
-    ensures { λ x. ⌜ ((f : Totals) (ks : List ℕ) → x ≡ firstFault f ks (now (r .entry)) head89) ⌝ }
-{
-    Finding::Sound
-        .demand(fields::places::same_at(r, 1, 2, b"NY"), 7, 1)
-        .demand(fields::places::same_at(r, 3, 4, b"00"), 7, 2)
-        .demand(fields::places::same_at(r, 5, 6, b"00"), 7, 3)
-}
-
 pub fn check89(r: &[u8], file: Totals) -> Finding
     requires { ⌜ length (now r) ≡ 81 ⌝ }
     ensures { λ x. ⌜ ((ks : List ℕ) → x ≡ firstFault file ks (now (r .entry)) (record89 (now (r .entry)))) ⌝ }
 {
-    fixed89(r)
+    common::outside(r)
         .or_else(figures_in(r, file))
         .demand(fields::places::all_at(Class::Zero, r, 48, 80), 7, 9)
 }

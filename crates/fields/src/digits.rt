@@ -8,6 +8,7 @@ ghost use Rattle.fields.specs.Bytes.{every, isDigit};
 ghost use Rattle.fields.specs.Numbers.{value, numberOf};
 use super::classes::Class;
 use super::classes::all_in;
+use super::words::wide;
 
 pub enum Digits {
     Number(u64),
@@ -42,12 +43,6 @@ fn by_bytes(s: &[u8]) -> Digits
         return Digits::NotDigits;
     }
     Digits::Number(value_of(s))
-}
-
-fn wide(b: u8) -> u64
-    ensures { λ r. ⌜ r ≡ b ⌝ }
-{
-    b as u64
 }
 
 // The number that digits write.

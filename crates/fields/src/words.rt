@@ -113,7 +113,8 @@ fn half(s: &[u8]) -> u64
     wide(s[0]) + wide(s[1]) * 0x100 + wide(s[2]) * 0x10000 + wide(s[3]) * 0x1000000
 }
 
-fn wide(b: u8) -> u64
+// A byte as a wide number.
+pub fn wide(b: u8) -> u64
     ensures { λ r. ⌜ (r ≡ b) × (r < 256) ⌝ }
 {
     b as u64

@@ -12,14 +12,6 @@ use Rattle.rules.specs.Codes.{keyIn}
 use Rattle.rules.specs.Layouts.{groupGives}
 use Rattle.rules.specs.declared.Assignment.{Assignment}
 
--- fields 1 to 3 of record 10
-abbrev pub head10 : List Row
-head10 =
-    at 1 1 2 (fixed "NY") ∷
-    at 2 3 4 (fixed "00") ∷
-    at 3 5 6 (fixed "00") ∷
-    []
-
 -- an assignment may be opened
 abbrev pub opens : Assignment → List Row
 opens a = file room 16 4 ∷ groupGives a ∷ []

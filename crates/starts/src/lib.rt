@@ -10,7 +10,7 @@ ghost use Rattle.layout.specs.Rules.{digits};
 ghost use Rattle.layout.specs.Rows.{firstFault, member, at};
 ghost use Rattle.rules.specs.Codes.{keyIn};
 ghost use Rattle.rules.specs.Layouts.{record10, record20};
-ghost use Rattle.starts.specs.Stages.{head10, opens, head20, newKey, account20};
+ghost use Rattle.starts.specs.Stages.{opens, head20, newKey, account20};
 use fields::accounts::Account;
 use fields::classes::Class;
 use fields::digits::Digits;
@@ -29,22 +29,11 @@ fn digits_at(r: &[u8], from: usize, to: usize, field: u8) -> Finding
     Finding::Sound
 }
 
-// Fields 1 to 3 of a record 10.
-fn fixed10(r: &[u8]) -> Finding
-    requires { ⌜ length (now r) ≡ 81 ⌝ }
-    ensures { λ x. ⌜ ((f : Totals) (ks : List ℕ) → x ≡ firstFault f ks (now (r .entry)) head10) ⌝ }
-{
-    Finding::Sound
-        .demand(fields::places::same_at(r, 1, 2, b"NY"), 7, 1)
-        .demand(fields::places::same_at(r, 3, 4, b"00"), 7, 2)
-        .demand(fields::places::same_at(r, 5, 6, b"00"), 7, 3)
-}
-
 pub fn check10(r: &[u8]) -> Finding
     requires { ⌜ length (now r) ≡ 81 ⌝ }
     ensures { λ x. ⌜ ((f : Totals) (ks : List ℕ) → x ≡ firstFault f ks (now (r .entry)) record10) ⌝ }
 {
-    fixed10(r)
+    common::outside(r)
         .or_else(digits_at(r, 9, 16, 5))
         .or_else(digits_at(r, 17, 23, 6))
         .demand(fields::places::same_at(r, 24, 31, b"00008080"), 7, 7)

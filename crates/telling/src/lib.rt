@@ -1,5 +1,7 @@
 // What the programs read and print: a process day from six digits, and an answer as one line.
 
+ghost use mathlib.Core.Path.{_≡_};
+ghost use Rattle.telling.specs.Days.{dayWritten};
 use dates::Date;
 use dates::ProcessDay;
 use figures::totals::Totals;
@@ -8,7 +10,9 @@ use rules::Refusal;
 use rules::Verdict;
 
 // The day that six digits DDMMYY name; it may be no date.
-pub fn process_day(ddmmyy: u64) -> ProcessDay {
+pub fn process_day(ddmmyy: u64) -> ProcessDay
+    ensures { λ x. ⌜ x ≡ dayWritten ddmmyy ⌝ }
+{
     ProcessDay {
         year: 2000 + ddmmyy % 100,
         month: ddmmyy / 100 % 100,

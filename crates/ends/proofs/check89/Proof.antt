@@ -5,7 +5,8 @@ use mathlib.Core.List.{[], _∷_, _++_}
 use Rattle.layout.specs.Rules.{zeros}
 use Rattle.layout.specs.Rows.{at}
 use Rattle.layout.proofs.Laws.{pieces}
-use Rattle.ends.specs.Stages.{head89, figuresIn}
+use Rattle.common.specs.Heads.{outside}
+use Rattle.ends.specs.Stages.{figuresIn}
 use Rattle.layout.proofs.Laws.{then-rows}
 use Rattle.ends.proofs.Laws.{file-as-own}
 use borrow.Author.Needs.{needs}
@@ -14,13 +15,13 @@ use Rattle.ends.proofs.check89.Tie as tie
 use Rattle.ends.proofs.check89.Reads as reads
 use Rattle.ends.proofs.check89.Lts as lts
 use Rattle.ends.proofs.figures_in.Reads as figures-in-reads
-use Rattle.ends.proofs.fixed89.Reads as fixed89-reads
+use Rattle.common.proofs.outside.Reads as outside-reads
 use Rattle.fields.proofs.places.all_at.Reads as all-at-reads
 use Rattle.layout.proofs.Finding.demand.Reads as demand-reads
 use Rattle.layout.proofs.Finding.or_else.Reads as or-else-reads
 
-fixed89-requires : tie.Need-fixed89-requires
-fixed89-requires c κs = search needs
+outside-requires : tie.Need-outside-requires
+outside-requires c κs = search needs
 
 figures-in-requires : tie.Need-figures-in-requires
 figures-in-requires c κs = search needs
@@ -40,14 +41,14 @@ returns c = λ ks.
     let a = p .before .before .before .before .args in
     let r = a .r .now in
     let f = a .file in
-    simp (c .demand .ensures, c .before .all-at .ensures, p .or-else .ensures, p .before .figures-in .ensures f ks, p .before .before .fixed89 .ensures f ks)
-    (sym (file-as-own f ks r ∙ then-rows f ks r (head89 ++ figuresIn r f) (at 9 48 80 zeros ∷ []) (pieces f ks r head89 (figuresIn r f))))
+    simp (c .demand .ensures, c .before .all-at .ensures, p .or-else .ensures, p .before .figures-in .ensures f ks, p .before .before .outside .ensures f ks)
+    (sym (file-as-own f ks r ∙ then-rows f ks r (outside ++ figuresIn r f) (at 9 48 80 zeros ∷ []) (pieces f ks r outside (figuresIn r f))))
 
 pub check89-spec : {M : Type 1} → statement M
 check89-spec =
     tie.close
     (tie.spec
-    fixed89-requires
+    outside-requires
     figures-in-requires
     or-else-requires
     all-at-requires

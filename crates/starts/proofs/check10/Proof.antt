@@ -5,7 +5,7 @@ use mathlib.Core.List.{List, [], _∷_, _++_}
 use Rattle.layout.specs.Rules.{digits, fixed, zeros}
 use Rattle.layout.specs.Rows.{Row, at}
 use Rattle.layout.proofs.Laws.{pieces}
-use Rattle.starts.specs.Stages.{head10}
+use Rattle.common.specs.Heads.{outside}
 use Rattle.layout.proofs.Laws.{then-piece, then-rows}
 use borrow.Author.Needs.{needs}
 use Rattle.starts.proofs.check10.Statement.{statement}
@@ -17,10 +17,10 @@ use Rattle.fields.proofs.places.same_at.Reads as same-at-reads
 use Rattle.layout.proofs.Finding.demand.Reads as demand-reads
 use Rattle.layout.proofs.Finding.or_else.Reads as or-else-reads
 use Rattle.starts.proofs.digits_at.Reads as digits-at-reads
-use Rattle.starts.proofs.fixed10.Reads as fixed10-reads
+use Rattle.common.proofs.outside.Reads as outside-reads
 
-fixed10-requires : tie.Need-fixed10-requires
-fixed10-requires c κs = search needs
+outside-requires : tie.Need-outside-requires
+outside-requires c κs = search needs
 
 digits-at-requires : tie.Need-digits-at-requires
 digits-at-requires c κs = search needs
@@ -67,15 +67,15 @@ returns c = λ f ks.
       q .before .digits-at2 .ensures f ks,
       o .or-else .ensures,
       o .before .digits-at .ensures f ks,
-      o .before .before .fixed10 .ensures f ks,
+      o .before .before .outside .ensures f ks,
     )
-    (sym (then-rows f ks r ((head10 ++ sender) ++ number) rest (then-piece f ks r (head10 ++ sender) number (pieces f ks r head10 sender))))
+    (sym (then-rows f ks r ((outside ++ sender) ++ number) rest (then-piece f ks r (outside ++ sender) number (pieces f ks r outside sender))))
 
 pub check10-spec : {M : Type 1} → statement M
 check10-spec =
     tie.close
     (tie.spec
-    fixed10-requires
+    outside-requires
     digits-at-requires
     or-else-requires
     digits-at-requires-2

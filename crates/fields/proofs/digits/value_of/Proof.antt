@@ -13,7 +13,7 @@ use Rattle.fields.proofs.digits.value_of.Statement.{statement}
 use Rattle.fields.proofs.digits.value_of.Tie as tie
 use Rattle.fields.proofs.digits.value_of.Reads as reads
 use Rattle.fields.proofs.digits.value_of.Lts as lts
-use Rattle.fields.proofs.digits.wide.Reads as wide-reads
+use Rattle.fields.proofs.words.wide.Reads as wide-reads
 
 abbrev Inv-loop : tie.InvT-loop
 Inv-loop s n₀ i₀ n i = (i ≤ length s) × (n < 10 ^ i) × (valueFrom n (drop i s) ≡ value s)
@@ -29,7 +29,7 @@ digit : (c : tie.After-shared-slice-known2 Inv-loop μ-loop) → isDigit (byte c
 digit c = every-at isDigit _ _ (c .before .before .before .before .pre .1) (omega arith)
 
 worth : (c : tie.After-wide Inv-loop μ-loop) → c .wide .result < 10
-worth c = omega (arith, c .wide .ensures, digit-high (byte (c .before)) (digit (c .before)))
+worth c = omega (arith, c .wide .ensures .0, digit-high (byte (c .before)) (digit (c .before)))
 
 loop-holds : tie.Need-loop-holds Inv-loop μ-loop
 loop-holds c = (zero-le, lit< tt, refl)
@@ -66,7 +66,7 @@ loop-again c =
     let n = p .loop .n in (
       omega arith,
       grows _ _ _ (p .loop .inv .1) (worth c),
-      rw (c .wide .ensures) (value-next n s (p .loop .i) (omega arith)) ∙ p .loop .inv .2,
+      rw (c .wide .ensures .0) (value-next n s (p .loop .i) (omega arith)) ∙ p .loop .inv .2,
     )
 
 returns : tie.Need-returns Inv-loop μ-loop

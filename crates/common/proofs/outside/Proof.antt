@@ -1,13 +1,13 @@
--- Fields 1 to 3 of record 10, row by row.
+-- Fields 1 to 3 of 10 and 89, row by row.
 -- Assumes nothing.
 use mathlib.Core.Path.{sym}
 use Rattle.layout.proofs.Laws.{demands}
-use Rattle.starts.specs.Stages.{head10}
+use Rattle.common.specs.Heads.{outside}
 use borrow.Author.Needs.{needs}
-use Rattle.starts.proofs.fixed10.Statement.{statement}
-use Rattle.starts.proofs.fixed10.Tie as tie
-use Rattle.starts.proofs.fixed10.Reads as reads
-use Rattle.starts.proofs.fixed10.Lts as lts
+use Rattle.common.proofs.outside.Statement.{statement}
+use Rattle.common.proofs.outside.Tie as tie
+use Rattle.common.proofs.outside.Reads as reads
+use Rattle.common.proofs.outside.Lts as lts
 use Rattle.fields.proofs.places.same_at.Reads as same-at-reads
 use Rattle.layout.proofs.Finding.demand.Reads as demand-reads
 
@@ -43,10 +43,10 @@ returns c = λ f ks.
     let p = c .before .before .before in
     let q = p .before .before .before in
     simp (c .demand3 .ensures, c .before .same-at3 .ensures, p .demand2 .ensures, p .before .same-at2 .ensures, q .demand .ensures, q .before .same-at .ensures)
-    (sym (demands f ks (q .before .before .before .before .args .r .now) head10))
+    (sym (demands f ks (q .before .before .before .before .args .r .now) outside))
 
-pub fixed10-spec : {M : Type 1} → statement M
-fixed10-spec =
+pub outside-spec : {M : Type 1} → statement M
+outside-spec =
     tie.close
     (tie.spec
     slice-aggregate-same-at
