@@ -1,0 +1,213 @@
+-- What a sound record within an assignment of a draft has, and what it adds.
+-- Assumes nothing.
+use Prim.Native.Nat.{ℕ, _+_, _≤_, _<_}
+use mathlib.Core.Path.{_≡_, refl, sym, ap, ap₂, subst, _∙_}
+use mathlib.Core.Logic.{_⊎_, inl, inr, ⊎-elim}
+use mathlib.Core.List.{List}
+use mathlib.Core.Bool.{Bool, true, false, not, _&&_, _||_, true≢false, false≢true}
+use native.Mathlib.Omega.{arith}
+use borrow.Author.Tests.{eq-eqb, ne-eqb}
+use lib.Dec.{eqb}
+use Rattle.choice.specs.Choice.{if_then_else_}
+use Rattle.dates.specs.Dates.{readDay}
+use Rattle.dates.specs.declared.Date.{Date}
+use Rattle.dates.specs.declared.Window.{Window}
+use Rattle.fields.specs.Bytes.{every, isDigit, part}
+use Rattle.fields.specs.Numbers.{value}
+use Rattle.figures.specs.Figures.{amount}
+use Rattle.figures.specs.Totals.{oneRecord, oneTransaction, _⊞_, undated, dated, Room}
+use Rattle.figures.specs.declared.totals.Totals.{Totals}
+use Rattle.figures.specs.declared.totals.AssignmentTotals.{AssignmentTotals}
+use Rattle.growth.specs.Bounds.{Bounded}
+use Rattle.layout.specs.Rows.{AllHold}
+use Rattle.order.proofs.Each.{eachBool, of-bool, eachKind, of-kind}
+use Rattle.order.proofs.Follow.{choice, choice-is}
+use Rattle.order.specs.Whole.{isRemittance}
+use Rattle.rules.specs.Codes.{recordCode, kindFor, kindOf, numberOfKind}
+use Rattle.rules.specs.Layouts.{tableFor, record30, rows}
+use Rattle.rules.specs.Growth.{gainFor, gain, turnFor, turn}
+use Rattle.rules.specs.Order.{mayFollow}
+use Rattle.rules.specs.Payments.{theDate, dateIn, amountIn}
+use Rattle.rules.specs.declared.Assignment.{Assignment}
+use Rattle.rules.specs.declared.Kind.{Kind}
+use Rattle.rules.specs.declared.Kind.the-variants.{R10, R20, R30, R31, R40, R49, R50, R88, R89, Other}
+use Rattle.rules.specs.declared.Mode.the-variants.{Draft}
+use Rattle.rules.proofs.Codes.{at-codes}
+use Rattle.running.proofs.Bounds.{pays}
+use Rattle.drafts.specs.Block.{brought, Growing}
+
+-- behind a record of these types an assignment is under way
+abbrev pub under : Kind → Bool
+under R10 = false
+under R20 = true
+under R30 = true
+under R31 = true
+under R40 = true
+under R49 = true
+under R50 = true
+under R88 = false
+under R89 = false
+under Other = false
+
+-- the types of the records within
+abbrev pub within : Kind → Bool
+within R10 = false
+within R20 = false
+within R30 = true
+within R31 = true
+within R40 = true
+within R49 = true
+within R50 = true
+within R88 = false
+within R89 = false
+within Other = false
+
+abbrev isTwenty : Kind → Bool
+isTwenty R10 = false
+isTwenty R20 = true
+isTwenty R30 = false
+isTwenty R31 = false
+isTwenty R40 = false
+isTwenty R49 = false
+isTwenty R50 = false
+isTwenty R88 = false
+isTwenty R89 = false
+isTwenty Other = false
+
+-- what may come in a draft while an assignment is under way is one of those, or the next 20: one computed test
+fits : Kind → Kind → Bool → Bool → Bool → Bool → Bool
+fits k l rem x y z = not (under l && choice Draft k (numberOfKind l) rem x y z) || (isTwenty k || within k)
+
+abbrev everyType : Kind → Kind → Bool
+everyType k l = eachBool (λ rem. eachBool (λ x. eachBool (λ y. eachBool (λ z. fits k l rem x y z))))
+
+everywhere : eachKind (λ k. eachKind (λ l. everyType k l)) ≡ true
+unfolding fits
+everywhere = refl
+
+fits-all : (k l : Kind) (rem x y z : Bool) → fits k l rem x y z ≡ true
+fits-all k l rem x y z =
+    of-bool (λ z. fits k l rem x y z) (of-bool (λ y. eachBool (λ z. fits k l rem x y z)) (of-bool (λ x. eachBool (λ y. eachBool (λ z. fits k l rem x y z))) (of-bool (λ rem. eachBool (λ x. eachBool (λ y. eachBool (λ z. fits k l rem x y z)))) (of-kind (λ l. everyType k l) (of-kind (λ k. eachKind (λ l. everyType k l)) everywhere k) l) rem) x) y) z
+
+then-within : (u c t v : Bool) → u ≡ true → c ≡ true → t ≡ false → not (u && c) || (t || v) ≡ true → v ≡ true
+then-within u c t v hu hc ht h = rw (hu, hc, ht) at h
+
+not-twenty : (k : Kind) → (k ≡ R20 → ⊥) → isTwenty k ≡ false
+not-twenty R10 n = refl
+not-twenty R20 n = absurd (n refl)
+not-twenty R30 n = refl
+not-twenty R31 n = refl
+not-twenty R40 n = refl
+not-twenty R49 n = refl
+not-twenty R50 n = refl
+not-twenty R88 n = refl
+not-twenty R89 n = refl
+not-twenty Other n = refl
+
+comes-within : (a : Assignment) (k : Kind) → under (a .last) ≡ true → (k ≡ R20 → ⊥) → mayFollow Draft a k ≡ true → within k ≡ true
+unfolding fits
+comes-within a k u n h = then-within _ _ _ _ u (choice-is Draft a k ∙ h) (not-twenty k n) (fits-all k (a .last) (isRemittance (a .service)) (eqb (a .code) 3) (eqb (a .code) 4) (eqb (a .code) 16))
+
+-- a record of one of the nine types has that type's code
+Coded : ℕ → Type 0
+Coded n = (kindFor n ≡ Other) ⊎ (n ≡ numberOfKind (kindFor n))
+
+coded : (n : ℕ) → Coded n
+unfolding kindFor Coded
+coded n =
+    at-codes Coded n (inr refl) (inr refl) (inr refl) (inr refl) (inr refl) (inr refl) (inr refl) (inr refl) (inr refl)
+    (λ a b c d e f g h i. inl (simp (a, b, c, d, e, f, g, h, i)))
+
+not-other : (k : Kind) → within k ≡ true → k ≡ Other → ⊥
+not-other k w e = false≢true (ap within (sym e) ∙ w)
+
+pub code-within : (n : ℕ) → within (kindFor n) ≡ true → n ≡ numberOfKind (kindFor n)
+unfolding Coded
+code-within n w = ⊎-elim (λ (e : kindFor n ≡ Other). absurd (not-other (kindFor n) w e)) (λ (e : n ≡ numberOfKind (kindFor n)). e) (coded n)
+
+pub kind-thirty : (n : ℕ) → n ≡ 30 → kindFor n ≡ R30
+unfolding kindFor
+kind-thirty n e = ap kindFor e
+
+twenty-code : (n : ℕ) → kindFor n ≡ R20 → n ≡ 20
+unfolding Coded
+twenty-code n e = ⊎-elim (λ (o : kindFor n ≡ Other). absurd (false≢true (ap isTwenty (sym o ∙ e)))) (λ (c : n ≡ numberOfKind (kindFor n)). c ∙ ap numberOfKind e) (coded n)
+
+pub not-opening : (n : ℕ) → eqb n 20 ≡ false → kindFor n ≡ R20 → ⊥
+not-opening n h e = true≢false (sym (eq-eqb n 20 (twenty-code n e)) ∙ h)
+
+-- what a record within adds to its assignment, and to the file
+pub record GrowsBy (k : Kind) (r : List ℕ) (a : Assignment) : Type 0 where
+  pub totals : turnFor k r a .totals ≡ a .totals ⊞ brought r
+  pub service : turnFor k r a .service ≡ a .service
+  pub under : under (turnFor k r a .last) ≡ true
+  pub file : gainFor k r ≡ brought r .totals
+
+grows-by : (k : Kind) (r : List ℕ) (a : Assignment) → within k ≡ true → recordCode r ≡ numberOfKind k → GrowsBy k r a
+unfolding brought
+grows-by R10 r a w e = absurd (false≢true w)
+grows-by R20 r a w e = absurd (false≢true w)
+grows-by R30 r a w e = record { totals = rw e; service = refl; under = refl; file = rw e }
+grows-by R31 r a w e = record { totals = rw e; service = refl; under = refl; file = rw e }
+grows-by R40 r a w e = record { totals = rw e; service = refl; under = refl; file = rw e }
+grows-by R49 r a w e = record { totals = rw e; service = refl; under = refl; file = rw e }
+grows-by R50 r a w e = record { totals = rw e; service = refl; under = refl; file = rw e }
+grows-by R88 r a w e = absurd (false≢true w)
+grows-by R89 r a w e = absurd (false≢true w)
+grows-by Other r a w e = absurd (false≢true w)
+
+module _ (w : Window) (f : Totals) (ks : List ℕ) (a : Assignment) (r : List ℕ) (h : AllHold f ks r (rows Draft w a r)) (u : under (a .last) ≡ true) (n : eqb (recordCode r) 20 ≡ false) where
+  may : mayFollow Draft a (kindOf r) ≡ true
+  unfolding AllHold
+  may = h .1 .0
+
+  pub grows : GrowsBy (kindOf r) r a
+  grows =
+      let i = comes-within a (kindOf r) u (not-opening (recordCode r) n) may in
+      grows-by (kindOf r) r a i (code-within (recordCode r) i)
+
+  thirty : recordCode r ≡ 30 → AllHold f ks r (record30 w a r)
+  unfolding AllHold
+  thirty e = subst (λ (k : Kind). AllHold f ks r (tableFor k w a r)) (kind-thirty (recordCode r) e) (h .1 .1)
+
+  pub growing : Bounded 200000 (a .totals .totals) → Growing (a .totals) r
+  unfolding AllHold
+  growing b =
+      record {
+        bounded = b;
+        amount = λ e. thirty e .1 .1 .1 .1 .1 .1 .1 .1 .1 .1 .1 .0;
+        date = λ e. thirty e .1 .1 .1 .1 .1 .1 .0;
+        sum = λ e. pays f ks w a r (thirty e) .own;
+      }
+
+-- ---- the figures behind one more record, as the code comes to them
+module _ (t : AssignmentTotals) (r : List ℕ) (n : ℕ) (e : n ≡ recordCode r) where
+  pub is-other : (n ≡ 30 → ⊥) → t ⊞ undated oneRecord ≡ t ⊞ brought r
+  unfolding brought
+  is-other h = ap (λ (b : Bool). t ⊞ (if b then dated (amountIn r) (dateIn r) else undated oneRecord)) (sym (ne-eqb (recordCode r) 30 (λ q. h (e ∙ q))))
+
+  pub is-thirty : n ≡ 30 → recordCode r ≡ 30
+  is-thirty h = sym e ∙ h
+
+  module _ (h : n ≡ 30) (g : Growing t r) where
+    -- its fields have their digits
+    pub has-amount : every isDigit (part 33 49 r) ≡ false → ⊥
+    has-amount x = true≢false (sym (g .amount (is-thirty h)) ∙ x)
+
+    pub has-date : every isDigit (part 16 21 r) ≡ false → ⊥
+    has-date x = true≢false (sym (g .date (is-thirty h)) ∙ x)
+
+    pub takes : (x : ℕ) (d : Date) → value (part 33 49 r) ≡ x → Room (t .totals) (oneTransaction (amount x) d)
+    takes x d q =
+        record {
+          assignments = omega (arith, g .bounded .assignments);
+          transactions = omega (arith, g .bounded .transactions);
+          records = omega (arith, g .bounded .records);
+          sum = omega (arith, g .sum (is-thirty h), q);
+        }
+
+    pub is-paid : (x y : ℕ) (d : Date) → value (part 33 49 r) ≡ x → value (part 16 21 r) ≡ y → d ≡ theDate (readDay y) → t ⊞ dated (amount x) d ≡ t ⊞ brought r
+    unfolding brought
+    is-paid x y d p q f =
+        ap₂ (λ (u : ℕ) (v : Date). t ⊞ dated (amount u) v) (sym p) (f ∙ ap (λ (z : ℕ). theDate (readDay z)) (sym q))
+        ∙ ap (λ (b : Bool). t ⊞ (if b then dated (amountIn r) (dateIn r) else undated oneRecord)) (sym (eq-eqb (recordCode r) 30 (is-thirty h)))
