@@ -5,6 +5,7 @@ use mathlib.Core.Path.{_≡_, refl, sym, ap, ap₂, subst, _∙_}
 use mathlib.Core.List.{List, [], _∷_, _++_, append-assoc}
 use mathlib.Core.Bool.{Bool, true, false, _&&_}
 use native.Mathlib.Omega.{arith}
+use native.Mathlib.Numerals.{add-one}
 use borrow.Author.Tests.{eqb-true, eq-eqb, ne-eqb, lt-ltb}
 use lib.Dec.{eqb, ltb}
 use lib.ListN.{length, take, drop}
@@ -12,18 +13,20 @@ use lib.Seq.{drop-drop}
 use Rattle.choice.specs.Choice.{if_then_else_}
 use Rattle.dates.specs.declared.Service.{Service}
 use Rattle.dates.specs.declared.Window.{Window}
-use Rattle.figures.specs.Totals.{_⊕_, oneRecord, oneAssignment, noneYet, _⊞_, undated, Room}
+use Rattle.figures.specs.Totals.{_⊕_, oneRecord, oneAssignment, noneYet, _⊞_, undated, dated, Room}
 use Rattle.figures.specs.declared.totals.Totals.{Totals}
 use Rattle.figures.specs.declared.totals.AssignmentTotals.{AssignmentTotals}
-use Rattle.figures.proofs.Laws.{⊕-assoc, noneYet-⊞}
+use Rattle.figures.proofs.Laws.{⊕-assoc, ⊕-none, noneYet-⊞}
+use Rattle.laws.proofs.Sound.{gains-join}
 use Rattle.growth.specs.Bounds.{Bounded, Small}
-use Rattle.laws.specs.Meets.{Meets}
+use Rattle.laws.specs.Meets.{gains, Meets}
 use Rattle.layout.specs.Rows.{AllHold}
 use Rattle.operations.specs.Ends.{endRecord, end88}
 use Rattle.operations.specs.Closing.{opens, behind88, endsBefore, withEnds}
 use Rattle.rules.specs.Codes.{serviceCode, recordCode, codeFor, serviceFor, kindOf}
 use Rattle.rules.specs.Growth.{gainFor, gain, turnFor, turn, keys, after, opened}
 use Rattle.rules.specs.Layouts.{tableFor, rows}
+use Rattle.rules.specs.Payments.{dateIn, amountIn}
 use Rattle.rules.specs.Run.{chunks}
 use Rattle.rules.specs.declared.Assignment.{Assignment}
 use Rattle.rules.specs.declared.Kind.{Kind}
@@ -50,6 +53,12 @@ last-cut zero b = refl
 last-cut (suc n) b =
     let e : 81 + 81 * n ≡ 81 * suc n = omega arith in
     ap (λ (x : List (List ℕ)). take 81 b ∷ x) (last-cut n (drop 81 b) ∙ ap (λ (x : List ℕ). chunks n (drop 81 b) ++ (take 81 x ∷ [])) (drop-drop (81 * n) 81 b ∙ ap (λ (x : ℕ). drop x b) e))
+
+one-gain : (k : ℕ) (d : List ℕ) → gains (chunks (k + 1) d) ≡ gains (chunks k d) ⊕ gain (recordAt k d)
+unfolding gains
+one-gain k d =
+    ap (λ (x : ℕ). gains (chunks x d)) (add-one k) ∙ ap gains (last-cut k d) ∙ gains-join (chunks k d) (recordAt k d ∷ [])
+    ∙ ap (λ (x : Totals). gains (chunks k d) ⊕ x) (⊕-none (gain (recordAt k d)))
 
 one-more : (k j : ℕ) (d : List ℕ) → k ≤ j → between k (j + 1) d ≡ between k j d ++ (recordAt j d ∷ [])
 one-more k j d h =
@@ -90,7 +99,8 @@ pub record Under (d : List ℕ) (from j : ℕ) (t : AssignmentTotals) : Type 0 w
   pub within : under (ahead .assignment .last) ≡ true
   pub totals : t ≡ ahead .assignment .totals
   pub service : ahead .assignment .service ≡ serviceFor (serviceCode (recordAt from d))
-  pub some : 0 < t .totals .assignments .0
+  pub one : t .totals .assignments .0 ≡ 1
+  pub file : ahead .file ≡ gains (chunks from d) ⊕ t .totals
   pub same : (g : Totals) → behindEnd g (recordsFrom from d) ≡ between from j d ++ withEnds (state (g ⊕ t .totals) (ahead .assignment)) (recordsFrom j d)
 
 -- the next record of records that meet the rules, and what is ahead behind it
@@ -109,9 +119,19 @@ module _ (d : List ℕ) (k : ℕ) (a : Ahead d k) (h : k < length d / 81) where
         file = a .file ⊕ gain (recordAt k d);
         kept = a .kept ++ keys (recordAt k d);
         assignment = turn (recordAt k d) (a .assignment);
+        counted = ap (λ (x : Totals). x ⊕ gain (recordAt k d)) (a .counted) ∙ sym (one-gain k d);
         meets = met .1;
         small = small-next k (kindOf (recordAt k d)) (a .window) (state (a .file) (a .assignment)) (a .kept) (recordAt k d) (a .small) (met .0 .1 .1);
       }
+
+-- a record within opens nothing
+brought-none : (r : List ℕ) → brought r .totals .assignments .0 ≡ 0
+unfolding brought
+brought-none r = go (eqb (recordCode r) 30) refl
+  where
+    go : (b : Bool) → eqb (recordCode r) 30 ≡ b → (if eqb (recordCode r) 30 then dated (amountIn r) (dateIn r) else undated oneRecord) .totals .assignments .0 ≡ 0
+    go true e = rw e
+    go false e = rw e
 
 -- behind the 20
 pub begun : (d : List ℕ) (from : ℕ) (t : AssignmentTotals) → Ahead d from → from < length d / 81 → length d / 81 ≤ 200000 → opens (recordAt from d) ≡ true → t ≡ noneYet ⊞ undated oneAssignment
@@ -131,7 +151,8 @@ begun d from t a h few o e =
       within = ap (λ (x : Assignment). under (x .last)) turned;
       totals = i ∙ sym (ap (λ (x : Assignment). x .totals) turned);
       service = ap (λ (x : Assignment). x .service) turned;
-      some = subst (λ (x : AssignmentTotals). 0 < x .totals .assignments .0) (sym i) (omega arith);
+      one = ap (λ (x : AssignmentTotals). x .totals .assignments .0) i;
+      file = ap (λ (x : Kind). a .file ⊕ gainFor x r) k ∙ ap₂ (λ (x : Totals) (y : AssignmentTotals). x ⊕ y .totals) (a .counted) (sym i);
       same = λ g.
           ap (behindEnd g) (next-of d from h)
           ∙ ap₂ (λ (x : AssignmentTotals) (y : Assignment). r ∷ withEnds (state (g ⊕ x .totals) y) (recordsFrom (from + 1) d)) (sym i) (sym turned)
@@ -169,7 +190,8 @@ module _ (d : List ℕ) (from j : ℕ) (t : AssignmentTotals) (u : Under d from 
           within = g′ .under;
           totals = e ∙ ap (λ (x : AssignmentTotals). x ⊞ brought r) (u .totals) ∙ sym (g′ .totals);
           service = g′ .service ∙ u .service;
-          some = omega (arith, u .some, ap (λ (x : AssignmentTotals). x .totals .assignments .0) e);
+          one = omega (arith, u .one, ap (λ (x : AssignmentTotals). x .totals .assignments .0) e, brought-none (recordAt j d));
+          file = ap (λ (x : Totals). x ⊕ gain r) (u .file) ∙ i (gains (chunks from d));
           same = λ g.
               u .same g
               ∙ ap (λ (x : List (List ℕ)). between from j d ++ x) (ap (withEnds (state (g ⊕ t .totals) a)) (next-of d j h) ∙ plain (state (g ⊕ t .totals) a) r (recordsFrom (j + 1) d) n
@@ -185,17 +207,20 @@ module _ (d : List ℕ) (from j : ℕ) (t : AssignmentTotals) (u : Under d from 
   stops t′ e o c =
       let a = u .ahead .assignment in
       let i : t′ ≡ a .totals ⊞ undated oneRecord = e ∙ ap (λ (x : AssignmentTotals). x ⊞ undated oneRecord) (u .totals) in
+      let more-of : (g : Totals) → (g ⊕ t .totals) ⊕ oneRecord ≡ g ⊕ t′ .totals = λ g. ⊕-assoc g (t .totals) oneRecord ∙ ap (λ (x : AssignmentTotals). g ⊕ x .totals) (sym e) in
       let end : Service → AssignmentTotals → List ℕ = λ s x. endRecord (codeFor s) 88 (x .totals) (x .last) in
       record {
         more = u .more;
         most = u .most;
         ahead = u .ahead;
         opener = o;
+        one = omega (arith, u .one, ap (λ (x : AssignmentTotals). x .totals .assignments .0) e);
+        total = ap (λ (x : Totals). x ⊕ oneRecord) (sym (u .ahead .counted) ∙ u .file) ∙ more-of (gains (chunks from d));
         same = λ g.
             u .same g
             ∙ ap (λ (x : List (List ℕ)). between from j d ++ x)
-            (c (state (g ⊕ t .totals) a) (omega (arith, u .some))
-            ∙ ap₂ (λ (x : List ℕ) (y : Totals). x ∷ behindEnd y (recordsFrom j d)) (ap₂ end (u .service) (sym i)) (⊕-assoc g (t .totals) oneRecord ∙ ap (λ (x : AssignmentTotals). g ⊕ x .totals) (sym e)));
+            (c (state (g ⊕ t .totals) a) (omega (arith, u .one))
+            ∙ ap₂ (λ (x : List ℕ) (y : Totals). x ∷ behindEnd y (recordsFrom j d)) (ap₂ end (u .service) (sym i)) (more-of g));
       }
 
   pub stops-at : (t′ : AssignmentTotals) → t′ ≡ t ⊞ undated oneRecord → j < length d / 81 → opens (recordAt j d) ≡ true → Block d from j t′

@@ -14,7 +14,7 @@ use Rattle.figures.specs.Totals.{_⊕_, oneRecord, oneAssignment, undated, date
 use Rattle.figures.specs.declared.totals.Totals.{Totals}
 use Rattle.figures.specs.declared.totals.AssignmentTotals.{AssignmentTotals}
 use Rattle.growth.specs.Bounds.{Bounded, Small}
-use Rattle.laws.specs.Meets.{Meets}
+use Rattle.laws.specs.Meets.{gains, Meets}
 use Rattle.operations.specs.Ends.{endRecord, end89}
 use Rattle.operations.specs.Closing.{opens, withEnds}
 use Rattle.rules.specs.Codes.{serviceCode, recordCode, codeFor, serviceFor}
@@ -58,6 +58,7 @@ pub record Ahead (d : List ℕ) (k : ℕ) : Type 0 where
   pub file : Totals
   pub kept : List ℕ
   pub assignment : Assignment
+  pub counted : file ≡ gains (chunks k d)
   pub meets : Meets Draft window file kept assignment (recordsFrom k d)
   pub small : Small k (state file assignment)
 
@@ -72,5 +73,7 @@ pub record Block (d : List ℕ) (k n : ℕ) (t : AssignmentTotals) : Type 0 wher
   pub most : n ≤ length d / 81
   pub ahead : Ahead d n
   pub opener : n < length d / 81 → opens (recordAt n d) ≡ true
+  pub one : t .totals .assignments .0 ≡ 1
+  pub total : gains (chunks n d) ⊕ oneRecord ≡ gains (chunks k d) ⊕ t .totals
   pub same : (g : Totals)
       → behindEnd g (recordsFrom k d) ≡ between k n d ++ (endRecord (codeFor (serviceFor (serviceCode (recordAt k d)))) 88 (t .totals) (t .last) ∷ behindEnd (g ⊕ t .totals) (recordsFrom n d))

@@ -35,7 +35,7 @@ add-k : tie.Need-add-k Inv-loop μ-loop
 add-k c = search needs
 
 loop-holds : tie.Need-loop-holds Inv-loop μ-loop
-loop-holds c = 
+loop-holds c =
     let s = c .before .before .before in (
       begun _ _ _ (s .pre .0) (s .pre .1) (s .pre .2) (s .pre .3) (c .with-assignment .ensures ∙ ap (λ (x : AssignmentTotals). x ⊞ undated oneAssignment) (c .before .none .ensures)),
       refl,
@@ -63,12 +63,12 @@ with-record-requires : tie.Need-with-record-requires Inv-loop μ-loop
 with-record-requires c κs = room-record _ _ _ _ (c .before .before .before .before .loop .inv .0)
 
 returns : tie.Need-returns Inv-loop μ-loop
-returns c = 
+returns c =
     let p = c .before .before .before .before .before in
     stops-at _ _ _ _ (p .loop .inv .0) _ (c .with-record .ensures) (omega (arith, c .before .before .before .before .loop-test)) (opens-yes _ (p .loop .k) _ (c .before .before .code-at .ensures) (c .before .if1 .taken))
 
 grown-requires : tie.Need-grown-requires Inv-loop μ-loop
-grown-requires c κs = 
+grown-requires c κs =
     let p = c .before .before .before .before in
     asks _ _ _ _ (p .loop .inv .0) (omega arith) (opens-no _ (p .loop .k) _ (c .before .code-at .ensures) (c .if1 .left))
 
@@ -79,7 +79,7 @@ loop-less : tie.Need-loop-less Inv-loop μ-loop
 loop-less c = search needs
 
 loop-again : tie.Need-loop-again Inv-loop μ-loop
-loop-again c = 
+loop-again c =
     let p = c .before .before .before .before .before in
     (walks-on _ _ _ _ _ (p .loop .inv .0) (omega arith) (opens-no _ (p .loop .k) _ (c .before .before .code-at .ensures) (c .before .if1 .left)) (c .grown .ensures), refl)
 

@@ -19,7 +19,7 @@ with-record-requires : tie.Need-with-record-requires
 with-record-requires c κs = search needs
 
 returns : tie.Need-returns
-returns c = 
+returns c =
     let s = c .before .before .before .before in
     c .with-record .ensures ∙ is-other (s .args .t) (s .args .r .now) _ (c .before .before .code-at .ensures) (c .before .if1 .taken)
 
@@ -33,7 +33,7 @@ enum-told : tie.Need-enum-told
 enum-told c = search needs
 
 returns-2 : tie.Need-returns-2
-returns-2 c = 
+returns-2 c =
     let p = c .before .before .before in
     let s = p .before .before .before in
     absurd (has-amount (s .args .t) (s .args .r .now) _ (p .before .code-at .ensures) (p .if1 .left) (s .pre .1) (digits-fail _ _ (c .before .before .number-at .ensures) (c .enum-told .given .1)))
@@ -48,7 +48,7 @@ enum-told-2 : tie.Need-enum-told-2
 enum-told-2 c = search needs
 
 returns-3 : tie.Need-returns-3
-returns-3 c = 
+returns-3 c =
     let p = c .before .before .before .before .before .before .before in
     let s = p .before .before .before in
     absurd (has-date (s .args .t) (s .args .r .now) _ (p .before .code-at .ensures) (p .if1 .left) (s .pre .1) (digits-fail _ _ (c .before .before .number-at2 .ensures) (c .enum-told2 .given .1)))
@@ -57,14 +57,14 @@ date-from-requires : tie.Need-date-from-requires
 date-from-requires c κs = search needs
 
 with-transaction-requires : tie.Need-with-transaction-requires
-with-transaction-requires c κs = 
+with-transaction-requires c κs =
     let q = c .before .before .before .before .before .before in
     let p = q .before .before .before in
     let s = p .before .before .before in
     takes (s .args .t) (s .args .r .now) _ (p .before .code-at .ensures) (p .if1 .left) (s .pre .1) _ _ (value-is _ _ (q .before .before .number-at .ensures) _ (q .amount .given .1))
 
 returns-4 : tie.Need-returns-4
-returns-4 c = 
+returns-4 c =
     let y = c .before .before .before in
     let q = y .before .before .before .before in
     let p = q .before .before .before in
