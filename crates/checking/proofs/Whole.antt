@@ -1,11 +1,11 @@
 -- The refusals of the whole input, in their order, and the run behind them.
 -- Assumes nothing.
-use Prim.Native.Nat.{ℕ, _/_, _%_, _≤_, _<_}
+use Prim.Native.Nat.{ℕ, _/_, _≤_, _<_}
 use mathlib.Core.Path.{_≡_, refl, sym, ap, _∙_}
 use mathlib.Core.List.{List, []}
-use mathlib.Core.Bool.{Bool, true, false, not, _||_, or-true}
-use borrow.Author.Tests.{eq-eqb, ne-eqb, le-leb, lt-leb}
-use lib.Dec.{eqb, leb}
+use mathlib.Core.Bool.{Bool, true, false}
+use borrow.Author.Tests.{le-leb, lt-leb}
+use lib.Dec.{leb}
 use lib.ListN.{length}
 use Rattle.choice.specs.Choice.{if_then_else_}
 use Rattle.dates.specs.Windows.{windowOf}
@@ -14,7 +14,7 @@ use Rattle.dates.specs.declared.Window.{Window}
 use Rattle.dates.specs.declared.Opening.{Opening}
 use Rattle.dates.specs.declared.Opening.the-variants.{Open, NoDay}
 use Rattle.rules.specs.Growth.{start}
-use Rattle.rules.specs.Run.{refused, run, recordsOf, mostRecords, judge, onWindow, checkOf}
+use Rattle.rules.specs.Run.{refused, run, recordsOf, mostRecords, badLength, judge, onWindow, checkOf}
 use Rattle.rules.specs.declared.Mode.the-variants.{File}
 use Rattle.rules.specs.declared.Verdict.{Verdict}
 
@@ -27,21 +27,16 @@ module _ (day : ProcessDay) (b : List ℕ) (o : Opening) (opened : o ≡ windowO
   unfolding checkOf
   on-day w e = ap (λ (x : Opening). onWindow x (λ w. judge w b)) (sym e ∙ opened)
 
-module _ (w : Window) (b : List ℕ) where
-  pub empty : length b ≡ 0 → refused 2 0 0 0 ≡ judge w b
+module _ (w : Window) (b : List ℕ) (bad : Bool) (e : bad ≡ badLength b) where
+  pub wrong-length : bad ≡ true → refused 2 0 0 0 ≡ judge w b
   unfolding judge
-  empty e = rw (eq-eqb (length b) 0 e)
+  wrong-length h = rw (sym e ∙ h)
 
-  module _ (some : length b ≡ 0 → ⊥) where
-    pub uneven : (length b % 81 ≡ 0 → ⊥) → refused 2 0 0 0 ≡ judge w b
+  module _ (even : bad ≡ false) where
+    pub too-many : mostRecords < length b / 81 → refused 3 0 0 0 ≡ judge w b
     unfolding judge
-    uneven e = rw (ne-eqb (length b) 0 some, ne-eqb (length b % 81) 0 e)
+    too-many h = rw (sym e ∙ even, lt-leb (length b / 81) mostRecords h)
 
-    module _ (even : length b % 81 ≡ 0) where
-      pub too-many : mostRecords < length b / 81 → refused 3 0 0 0 ≡ judge w b
-      unfolding judge
-      too-many h = rw (ne-eqb (length b) 0 some, eq-eqb (length b % 81) 0 even, lt-leb (length b / 81) mostRecords h)
-
-      pub in-turn : length b / 81 ≤ mostRecords → run File w 0 start [] (recordsOf b) ≡ judge w b
-      unfolding judge
-      in-turn h = rw (ne-eqb (length b) 0 some, eq-eqb (length b % 81) 0 even, le-leb (length b / 81) mostRecords h)
+    pub in-turn : length b / 81 ≤ mostRecords → run File w 0 start [] (recordsOf b) ≡ judge w b
+    unfolding judge
+    in-turn h = rw (sym e ∙ even, le-leb (length b / 81) mostRecords h)

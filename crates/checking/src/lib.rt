@@ -1,15 +1,16 @@
 // Checking a file, of any bytes, on any process day.
 
 ghost use mathlib.Core.Path.{_≡_};
-ghost use Rattle.rules.specs.Run.{refused, checkOf};
+ghost use Rattle.rules.specs.Run.{refused, badLength, judge, checkOf};
 use dates::Opening;
 use dates::ProcessDay;
+use dates::Window;
 use rules::Mode;
 use rules::Refusal;
 use rules::Verdict;
 
 // A refusal of the whole input: no record, no field.
-fn refuse(number: u8) -> Verdict
+pub fn refuse(number: u8) -> Verdict
     ensures { λ x. ⌜ x ≡ refused number 0 0 0 ⌝ }
 {
     Verdict::Refused(Refusal {
@@ -20,6 +21,27 @@ fn refuse(number: u8) -> Verdict
     })
 }
 
+// Nothing at all, or no multiple of 81 bytes.
+pub fn bad_length(bytes: &[u8]) -> bool
+    ensures { λ x. ⌜ x ≡ badLength (now (bytes .entry)) ⌝ }
+{
+    let len = bytes.len();
+    (len == 0) | (len % 81 != 0)
+}
+
+// On a process day that is one: the length, the number of records, then the records in turn.
+pub fn judge(w: Window, file: &[u8]) -> Verdict
+    ensures { λ x. ⌜ x ≡ judge w (now (file .entry)) ⌝ }
+{
+    if bad_length(file) {
+        return refuse(2);
+    }
+    if 200000 < file.len() / 81 {
+        return refuse(3);
+    }
+    running::run_over(Mode::File, w, file)
+}
+
 // Accepted with the figures of its records, or refused for its first fault.
 pub fn check(day: ProcessDay, file: &[u8]) -> Verdict
     ensures { λ x. ⌜ x ≡ checkOf day (now (file .entry)) ⌝ }
@@ -27,15 +49,5 @@ pub fn check(day: ProcessDay, file: &[u8]) -> Verdict
     let Opening::Open(w) = day.window() else {
         return refuse(1);
     };
-    let len = file.len();
-    if len == 0 {
-        return refuse(2);
-    }
-    if len % 81 != 0 {
-        return refuse(2);
-    }
-    if 200000 < len / 81 {
-        return refuse(3);
-    }
-    running::run_over(Mode::File, w, file)
+    judge(w, file)
 }
