@@ -3,3 +3,4 @@ pub mod First
 pub mod Frame
 pub mod Figures
 pub mod Demand2
+pub mod Bytes
