@@ -4,3 +4,4 @@ pub mod Frame
 pub mod Figures
 pub mod Demand2
 pub mod Bytes
+pub mod EndRecords
