@@ -5,3 +5,4 @@ pub mod Figures
 pub mod Demand2
 pub mod Bytes
 pub mod EndRecords
+pub mod Places
