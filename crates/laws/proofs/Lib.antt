@@ -6,3 +6,4 @@ pub mod Demand2
 pub mod Bytes
 pub mod EndRecords
 pub mod Places
+pub mod EndsPut
