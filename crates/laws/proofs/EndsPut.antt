@@ -32,6 +32,9 @@ use Rattle.laws.proofs.EndRecords.{kind-number, its88, sized-88, kind-8
 pub code-is : (r : List ℕ) (k : Kind) → kindOf r ≡ k → (k ≡ Other → ⊥) → recordCode r ≡ numberOfKind k
 code-is r k e o = sym (kind-number (recordCode r) (λ x. o (sym e ∙ x))) ∙ ap numberOfKind e
 
+pub end-is : (r : List ℕ) (k : Kind) → kindOf r ≡ k → anEnd (numberOfKind k) ≡ true → anEnd (recordCode r) ≡ true
+end-is r k e h = ap anEnd (code-is r k e (λ x. false≢true (sym (ap (λ (y : Kind). anEnd (numberOfKind y)) x) ∙ h))) ∙ h
+
 -- ---- one record at a time
 module _ (st : State) (r : List ℕ) (rs : List (List ℕ)) where
   pub put-none : endsBefore st r ≡ false → withEnds st (r ∷ rs) ≡ r ∷ withEnds (after st r) rs

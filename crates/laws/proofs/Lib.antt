@@ -7,3 +7,4 @@ pub mod Bytes
 pub mod EndRecords
 pub mod Places
 pub mod EndsPut
+pub mod Closes
