@@ -24,14 +24,14 @@ use Rattle.laws.specs.Meets.{gains, allKeys, Meets}
 use Rattle.laws.specs.Fits.{Fresh, Fits, NoEnd}
 
 -- the rows of a table that ask something of the file
-abbrev Asked : Totals → List ℕ → List Row → Type 0
+abbrev pub Asked : Totals → List ℕ → List Row → Type 0
 Asked f ks [] = Unit {0}
 Asked f ks (at n a e x ∷ ws) = Asked f ks ws
 Asked f ks (must t n d ∷ ws) = Asked f ks ws
 Asked f ks (file t n d ∷ ws) = (holds f ks t ≡ true) × Asked f ks ws
 
 -- every other row looks at the record, its assignment and the process day alone
-transfer : (f f′ : Totals) (ks ks′ r : List ℕ) (ws : List Row) → AllHold f ks r ws → Asked f′ ks′ ws → AllHold f′ ks′ r ws
+pub transfer : (f f′ : Totals) (ks ks′ r : List ℕ) (ws : List Row) → AllHold f ks r ws → Asked f′ ks′ ws → AllHold f′ ks′ r ws
 unfolding AllHold
 transfer f f′ ks ks′ r [] h d = tt
 transfer f f′ ks ks′ r (at n a e x ∷ ws) h d = (h .0, transfer f f′ ks ks′ r ws (h .1) d)
@@ -48,7 +48,7 @@ unfolding within
 took-it sum more h = leb-true (sum .0 + more .0) (limitWide .0) h
 
 -- what fits meets what its first record asks
-asked : (k : Kind) (w : Window) (a : Assignment) (r : List ℕ) (f : Totals) (ks : List ℕ) (g : Totals) (l : List ℕ) → (k ≡ R89 → ⊥)
+pub asked : (k : Kind) (w : Window) (a : Assignment) (r : List ℕ) (f : Totals) (ks : List ℕ) (g : Totals) (l : List ℕ) → (k ≡ R89 → ⊥)
     → Fits f ks (gainFor k r ⊕ g) (keysFor k r ++ l) → Asked f ks (tableFor k w a r)
 unfolding Fresh
 asked R10 w a r f ks g l e fit = tt
@@ -76,7 +76,7 @@ fresh-on R88 r ks l h = rw append-nil h
 fresh-on R89 r ks l h = rw append-nil h
 fresh-on Other r ks l h = rw append-nil h
 
-fits-on : (k : Kind) (r : List ℕ) (f : Totals) (ks : List ℕ) (g : Totals) (l : List ℕ) → Fits f ks (gainFor k r ⊕ g) (keysFor k r ++ l) → Fits (f ⊕ gainFor k r) (ks ++ keysFor k r) g l
+pub fits-on : (k : Kind) (r : List ℕ) (f : Totals) (ks : List ℕ) (g : Totals) (l : List ℕ) → Fits f ks (gainFor k r ⊕ g) (keysFor k r ++ l) → Fits (f ⊕ gainFor k r) (ks ++ keysFor k r) g l
 fits-on k r f ks g l fit = record { sums = omega (arith, fit .sums); rooms = omega (arith, fit .rooms); news = fresh-on k r ks l (fit .news) }
 
 -- THE FRAME

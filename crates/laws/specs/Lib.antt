@@ -1,3 +1,4 @@
 pub mod Meets
 pub mod Plain
 pub mod Fits
+pub mod Stripped
