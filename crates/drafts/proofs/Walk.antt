@@ -73,7 +73,7 @@ just-one k d = let e : k + 1 - k ≡ 1 = omega arith in ap (λ (x : ℕ). chunks
 
 -- ---- what the definition writes behind a state
 -- a record that does not open is written as it stands
-plain : (st : State) (r : List ℕ) (rs : List (List ℕ)) → opens r ≡ false → withEnds st (r ∷ rs) ≡ r ∷ withEnds (after st r) rs
+pub plain : (st : State) (r : List ℕ) (rs : List (List ℕ)) → opens r ≡ false → withEnds st (r ∷ rs) ≡ r ∷ withEnds (after st r) rs
 unfolding withEnds
 plain st r rs h = ap (λ (b : Bool). if (b && ltb 0 (st .file .assignments .0)) then end88 (behind88 st .assignment) ∷ r ∷ withEnds (after (behind88 st) r) rs else r ∷ withEnds (after st r) rs) h
 
@@ -123,6 +123,10 @@ module _ (d : List ℕ) (k : ℕ) (a : Ahead d k) (h : k < length d / 81) where
         meets = met .1;
         small = small-next k (kindOf (recordAt k d)) (a .window) (state (a .file) (a .assignment)) (a .kept) (recordAt k d) (a .small) (met .0 .1 .1);
       }
+
+  pub step-turned : step-on .assignment ≡ turn (recordAt k d) (a .assignment)
+  unfolding step-on
+  step-turned = refl
 
 -- a record within opens nothing
 brought-none : (r : List ℕ) → brought r .totals .assignments .0 ≡ 0

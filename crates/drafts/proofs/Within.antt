@@ -129,7 +129,7 @@ pub kind-thirty : (n : ℕ) → n ≡ 30 → kindFor n ≡ R30
 unfolding kindFor
 kind-thirty n e = ap kindFor e
 
-twenty-code : (n : ℕ) → kindFor n ≡ R20 → n ≡ 20
+pub twenty-code : (n : ℕ) → kindFor n ≡ R20 → n ≡ 20
 unfolding Coded
 twenty-code n e = ⊎-elim (λ (o : kindFor n ≡ Other). absurd (false≢true (ap isTwenty (sym o ∙ e)))) (λ (c : n ≡ numberOfKind (kindFor n)). c ∙ ap numberOfKind e) (coded n)
 

@@ -1,0 +1,226 @@
+-- The file that a draft is closed to, written one assignment behind the other.
+-- Assumes nothing.
+use Prim.Native.Nat.{ℕ, zero, suc, _+_, _-_, _*_, _/_, _%_, _≤_, _<_}
+use mathlib.Core.Path.{_≡_, refl, sym, ap, ap₂, subst, _∙_}
+use mathlib.Core.List.{List, [], _∷_, _++_, append-assoc, append-nil}
+use mathlib.Core.Bool.{Bool, true, false, _&&_, and-false, or-false, false≢true}
+use native.Mathlib.Omega.{arith}
+use borrow.Author.Tests.{eqb-true, eq-eqb, ne-eqb, ltb-true, ltb-false}
+use borrow.Rule.Slice.PartMut.{putMid}
+use lib.Dec.{eqb, ltb}
+use lib.ListN.{length, take, drop, length-append, length-take, length-drop}
+use lib.Seq.{take-add}
+use Rattle.choice.specs.Choice.{if_then_else_}
+use Rattle.dates.specs.Dates.{date, earlier}
+use Rattle.dates.specs.declared.Date.{Date}
+use Rattle.dates.specs.declared.Window.{Window}
+use Rattle.dates.proofs.Laws.{earlier-comm, none-earlier}
+use Rattle.figures.specs.Figures.{amount, count}
+use Rattle.figures.specs.Totals.{none, _⊕_, oneRecord, oneAssignment}
+use Rattle.figures.specs.declared.totals.Totals.{Totals}
+use Rattle.figures.specs.declared.totals.AssignmentTotals.{AssignmentTotals}
+use Rattle.figures.proofs.Laws.{⊕-none, none-⊕}
+use Rattle.laws.specs.Meets.{gains, turns, Meets, Ends}
+use Rattle.laws.proofs.Bytes.{Whole, whole}
+use Rattle.laws.proofs.Sound.{met, Ran}
+use Rattle.layout.specs.Rows.{member, AllHold}
+use Rattle.operations.specs.Ends.{endRecord, end88, end89}
+use Rattle.operations.specs.Closing.{opens, closedFigures, behind88, withEnds, bytesOf, closedFile}
+use Rattle.rules.specs.Codes.{serviceCode, recordCode, codeFor, serviceFor, kindFor, kindOf, numberOfKind}
+use Rattle.rules.specs.Growth.{gainFor, gain, turnFor, turn, keys, after, start, nothingYet, opened}
+use Rattle.rules.specs.Order.{mayFollow, mayEnd}
+use Rattle.rules.specs.Layouts.{rows}
+use Rattle.rules.specs.Run.{chunks, recordsOf, badLength}
+use Rattle.rules.specs.declared.Assignment.{Assignment}
+use Rattle.rules.specs.declared.Kind.{Kind}
+use Rattle.rules.specs.declared.Kind.the-variants.{R10, R20, R30, R31, R40, R49, R50, R88, R89, Other}
+use Rattle.rules.specs.declared.Mode.the-variants.{File, Draft}
+use Rattle.rules.specs.declared.State.{State}
+use Rattle.rules.proofs.Codes.{twenty}
+use Rattle.running.proofs.Loop.{small-start}
+use Rattle.running.proofs.Records.{rest-start, rest-end}
+use Rattle.writing.proofs.Wrote.{Wrote, at-first, behind, wrote-length, end-length}
+use Rattle.drafts.specs.Block.{recordsFrom, between, recordAt, state, Ahead, behindEnd, Block}
+use Rattle.drafts.proofs.Within.{twenty-code}
+use Rattle.drafts.proofs.Walk.{next-of, plain, holds, step-on, step-turned}
+use Rattle.closing.specs.Weighed.{span, endOf, Weighed}
+
+-- ---- records and bytes
+bytes-join : (xs ys : List (List ℕ)) → bytesOf (xs ++ ys) ≡ bytesOf xs ++ bytesOf ys
+unfolding bytesOf
+bytes-join [] ys = refl
+bytes-join (x ∷ xs) ys = ap (λ (l : List ℕ). x ++ l) (bytes-join xs ys) ∙ sym (append-assoc x (bytesOf xs) (bytesOf ys))
+
+laid : (n : ℕ) (b : List ℕ) → 81 * n ≤ length b → bytesOf (chunks n b) ≡ take (81 * n) b
+unfolding bytesOf chunks
+laid zero b h = refl
+laid (suc n) b h =
+    let e : 81 + 81 * n ≡ 81 * suc n = omega arith in
+    ap (λ (l : List ℕ). take 81 b ++ l) (laid n (drop 81 b) (rw length-drop (omega arith))) ∙ sym (take-add 81 (81 * n) b) ∙ ap (λ (x : ℕ). take x b) e
+
+span-is : (k n : ℕ) (d : List ℕ) → k ≤ n → n ≤ length d / 81 → bytesOf (between k n d) ≡ span k n d
+span-is k n d h m =
+    let e : 81 * (n - k) ≡ 81 * n - 81 * k = omega arith in
+    laid (n - k) (drop (81 * k) d) (rw length-drop (omega arith)) ∙ ap (λ (x : ℕ). take x (drop (81 * k) d)) e
+
+pub span-length : (k n : ℕ) (d : List ℕ) → k ≤ n → n ≤ length d / 81 → length (span k n d) ≡ 81 * n - 81 * k
+span-length k n d h m = length-take (81 * n - 81 * k) (drop (81 * k) d) ∙ simp length-drop (omega arith)
+
+-- ---- figures
+same-figures : (x y : Totals) → x .assignments .0 ≡ y .assignments .0 → x .transactions .0 ≡ y .transactions .0 → x .records .0 ≡ y .records .0 → x .sum .0 ≡ y .sum .0 → x .first ≡ y .first → x ≡ y
+same-figures x y a t r s f = λ i. record { assignments = count (a i); transactions = count (t i); records = count (r i); sum = amount (s i); first = f i }
+
+-- the figures of the file so far: those of the draft so far, with an 88 for each assignment
+abbrev pub sofar : Totals → Totals
+sofar t =
+    record { assignments = t .assignments; transactions = t .transactions; records = count (t .records .0 + t .assignments .0); sum = t .sum; first = t .first }
+
+undated : (d : Date) → earlier d (date 0) ≡ d
+undated d = earlier-comm d (date 0) ∙ none-earlier d
+
+-- an assignment and its 88 more
+block-more : (x y t : Totals) → t .assignments .0 ≡ 1 → y ⊕ oneRecord ≡ x ⊕ t → sofar x ⊕ t ≡ sofar y
+block-more x y t o e =
+    let a : y .assignments .0 + 0 ≡ x .assignments .0 + t .assignments .0 = ap (λ (z : Totals). z .assignments .0) e in
+    let r : y .records .0 + 1 ≡ x .records .0 + t .records .0 = ap (λ (z : Totals). z .records .0) e in
+    let n : y .transactions .0 + 0 ≡ x .transactions .0 + t .transactions .0 = ap (λ (z : Totals). z .transactions .0) e in
+    let s : y .sum .0 + 0 ≡ x .sum .0 + t .sum .0 = ap (λ (z : Totals). z .sum .0) e in
+    let f : earlier (y .first) (date 0) ≡ earlier (x .first) (t .first) = ap (λ (z : Totals). z .first) e in
+    same-figures (sofar x ⊕ t) (sofar y) (omega arith) (omega arith) (omega arith) (omega arith) (sym f ∙ undated (y .first))
+
+-- the 89 more
+all-told : (t : Totals) → sofar t ⊕ oneRecord ≡ closedFigures t
+all-told t = same-figures (sofar t ⊕ oneRecord) (closedFigures t) (omega arith) (omega arith) (omega arith) (omega arith) (undated (t .first))
+
+-- ---- how a sound draft begins
+kind-again : (k : Kind) → kindFor (numberOfKind k) ≡ k
+unfolding kindFor
+kind-again R10 = refl
+kind-again R20 = refl
+kind-again R30 = refl
+kind-again R31 = refl
+kind-again R40 = refl
+kind-again R49 = refl
+kind-again R50 = refl
+kind-again R88 = refl
+kind-again R89 = refl
+kind-again Other = refl
+
+-- the only one that is listed
+listed-one : (k : Kind) (n : ℕ) → member (numberOfKind k) (n ∷ []) ≡ true → k ≡ kindFor n
+unfolding member
+listed-one k n h = sym (kind-again k) ∙ ap kindFor (eqb-true (numberOfKind k) n (sym (or-false (eqb (numberOfKind k) n)) ∙ h))
+
+-- the 10 first, then a 20
+ten-first : (k : Kind) → mayFollow Draft (nothingYet Other) k ≡ true → k ≡ R10
+unfolding mayFollow kindFor
+ten-first k h = listed-one k 10 h
+
+then-twenty : (k : Kind) → mayFollow Draft (nothingYet R10) k ≡ true → k ≡ R20
+unfolding mayFollow kindFor
+then-twenty k h = listed-one k 20 h
+
+not-yet-end : mayEnd Draft (nothingYet R10) ≡ true → ⊥
+unfolding mayEnd mayFollow member
+not-yet-end h = false≢true h
+
+ten-opens-not : (n : ℕ) → kindFor n ≡ R10 → eqb n 20 ≡ false
+unfolding kindFor
+ten-opens-not n e = ne-eqb n 20 (λ q. clash (sym (ap kindFor q) ∙ e))
+  where
+    clash : R20 ≡ R10 → ⊥
+    clash z = let y : _≡_ {A = ℕ} 20 10 = ap numberOfKind z in omega arith
+
+some-records : (d : List ℕ) → badLength d ≡ false → 0 < length d / 81
+some-records d h = let w = whole d h in omega (arith, w .some, w .exact)
+
+ten-turned : (r : List ℕ) → kindOf r ≡ R10 → turns (nothingYet Other) (r ∷ []) ≡ nothingYet R10
+unfolding turns
+ten-turned r e = ap (λ (k : Kind). turnFor k r (nothingYet Other)) e
+
+ten-gained : (r : List ℕ) → kindOf r ≡ R10 → gains (r ∷ []) ≡ oneRecord
+unfolding gains
+ten-gained r e = ⊕-none (gain r) ∙ ap (λ (k : Kind). gainFor k r) e
+
+none-to-end : (st : State) (r : List ℕ) (rs : List (List ℕ)) → st .file .assignments .0 ≡ 0 → withEnds st (r ∷ rs) ≡ r ∷ withEnds (after st r) rs
+unfolding withEnds
+none-to-end st r rs h =
+    ap (λ (b : Bool). if b then end88 (behind88 st .assignment) ∷ r ∷ withEnds (after (behind88 st) r) rs else r ∷ withEnds (after st r) rs)
+    (ap (λ (n : ℕ). opens r && ltb 0 n) h ∙ and-false (opens r))
+
+-- what is written behind the 10: it has no assignment to end
+ten-written : (r s : List ℕ) (rs : List (List ℕ)) → kindOf r ≡ R10 → kindOf s ≡ R20 → withEnds start (r ∷ s ∷ rs) ≡ r ∷ behindEnd oneRecord (s ∷ rs)
+unfolding behindEnd
+ten-written r s rs e k =
+    plain start r (s ∷ rs) (ten-opens-not (recordCode r) e)
+    ∙ ap (λ (x : List (List ℕ)). r ∷ x)
+    (none-to-end (after start r) s rs (ap (λ (j : Kind). 0 + gainFor j r .assignments .0) e)
+    ∙ ap₂ (λ (i j : Kind). s ∷ withEnds (state ((none ⊕ gainFor i r) ⊕ gainFor j s) (turnFor j s (turnFor i r (nothingYet Other)))) rs) e k
+    ∙ ap (λ (f : Totals). s ∷ withEnds (state (f ⊕ oneAssignment) (opened (serviceFor (serviceCode s)))) rs) (none-⊕ oneRecord))
+
+module _ (d : List ℕ) (figures : Totals) (v : Weighed d figures) where
+  ran : Ran Draft (v .window) none [] (start .assignment) (recordsOf d) (v .total)
+  ran = met Draft (v .window) 0 start [] (recordsOf d) (v .total) (v .ran)
+
+  n>0 : 0 < length d / 81
+  n>0 = some-records d (v .lengthy)
+
+  at-first-record : Ahead d 0
+  unfolding gains chunks
+  at-first-record =
+      record {
+        window = v .window;
+        file = none;
+        kept = [];
+        assignment = nothingYet Other;
+        counted = refl;
+        meets = subst (Meets Draft (v .window) none [] (nothingYet Other)) (sym (rest-start d (length d / 81))) (ran .meets);
+        small = small-start;
+      }
+
+  pub header : kindOf (recordAt 0 d) ≡ R10
+  unfolding AllHold at-first-record
+  header = ten-first (kindOf (recordAt 0 d)) (holds d 0 at-first-record n>0 .1 .0)
+
+  behind-header : Ahead d 1
+  behind-header = step-on d 0 at-first-record n>0
+
+  turned : behind-header .assignment ≡ nothingYet R10
+  unfolding behind-header at-first-record
+  turned = step-turned d 0 at-first-record n>0 ∙ ap (λ (k : Kind). turnFor k (recordAt 0 d) (nothingYet Other)) header
+
+  records-are : recordsOf d ≡ recordAt 0 d ∷ recordsFrom 1 d
+  records-are = sym (rest-start d (length d / 81)) ∙ next-of d 0 n>0
+
+  -- a 10 alone is no draft
+  pub more-records : 1 < length d / 81
+  more-records = go (ltb 1 (length d / 81)) refl
+    where
+      alone : 1 ≡ length d / 81 → mayEnd Draft (nothingYet R10) ≡ true
+      alone e =
+          let i : recordsOf d ≡ recordAt 0 d ∷ [] = records-are ∙ ap (λ (x : List (List ℕ)). recordAt 0 d ∷ x) (rest-end d (length d / 81) 1 e) in
+          let t : turns (nothingYet Other) (recordAt 0 d ∷ []) ≡ nothingYet R10 = ten-turned (recordAt 0 d) header in
+          ap (mayEnd Draft) (sym (ap (turns (nothingYet Other)) i ∙ t)) ∙ ran .ends .may
+
+      go : (b : Bool) → ltb 1 (length d / 81) ≡ b → 1 < length d / 81
+      go true e = ltb-true 1 (length d / 81) e
+      go false e = absurd (not-yet-end (alone (omega (arith, ltb-false 1 (length d / 81) e, n>0))))
+
+  pub first-opens : opens (recordAt 1 d) ≡ true
+  unfolding AllHold
+  first-opens =
+      let m = holds d 1 behind-header more-records .1 .0 in
+      let k = then-twenty (kindOf (recordAt 1 d)) (subst (λ (x : Assignment). mayFollow Draft x (kindOf (recordAt 1 d)) ≡ true) turned m) in
+      eq-eqb (recordCode (recordAt 1 d)) 20 (twenty-code (recordCode (recordAt 1 d)) k)
+
+  -- the 10, then the assignments and the 89
+  pub begins : closedFile d ≡ span 0 1 d ++ bytesOf (behindEnd (sofar (gains (chunks 1 d))) (recordsFrom 1 d))
+  unfolding closedFile bytesOf chunks
+  begins =
+      let r = recordAt 0 d in
+      let s = recordAt 1 d in
+      let k : kindOf s ≡ R20 = twenty (recordCode s) (eqb-true (recordCode s) 20 first-opens) in
+      let i = next-of d 1 more-records in
+      ap (λ (x : List (List ℕ)). bytesOf (withEnds start x)) (records-are ∙ ap (λ (x : List (List ℕ)). r ∷ x) i)
+      ∙ ap bytesOf (ten-written r s (recordsFrom 2 d) header k)
+      ∙ ap₂ (λ (f : Totals) (x : List (List ℕ)). r ++ bytesOf (behindEnd (sofar f) x)) (sym (ten-gained r header)) (sym i)

@@ -1,0 +1,18 @@
+use borrow.Author.Needs.{needs}
+use Rattle.closing.proofs.service_in.Statement.{statement}
+use Rattle.closing.proofs.service_in.Tie as tie
+use Rattle.closing.proofs.service_in.Reads as reads
+use Rattle.closing.proofs.service_in.Lts as lts
+use Rattle.fields.proofs.places.code_at.Reads as code-at-reads
+
+code-at-requires : tie.Need-code-at-requires
+code-at-requires c κs = search needs
+
+returns : tie.Need-returns
+returns c = ?
+
+returns-2 : tie.Need-returns-2
+returns-2 c = ?
+
+pub service-in-spec : {M : Type 1} → statement M
+service-in-spec = tie.close (tie.spec code-at-requires returns returns-2)
