@@ -39,7 +39,7 @@ use Rattle.rules.specs.declared.State.{State}
 use Rattle.rules.proofs.Codes.{twenty}
 use Rattle.running.proofs.Loop.{small-start}
 use Rattle.running.proofs.Records.{rest-start, rest-end}
-use Rattle.writing.proofs.Wrote.{Wrote, at-first, behind, wrote-length, end-length}
+use Rattle.writing.proofs.Wrote.{Wrote, at-first, behind, told, wrote-length, room-behind, end-length}
 use Rattle.drafts.specs.Block.{recordsFrom, between, recordAt, state, Ahead, behindEnd, Block}
 use Rattle.drafts.proofs.Within.{twenty-code}
 use Rattle.drafts.proofs.Walk.{next-of, plain, holds, step-on, step-turned}
@@ -182,7 +182,7 @@ module _ (d : List ℕ) (figures : Totals) (v : Weighed d figures) where
   unfolding AllHold at-first-record
   header = ten-first (kindOf (recordAt 0 d)) (holds d 0 at-first-record n>0 .1 .0)
 
-  behind-header : Ahead d 1
+  pub behind-header : Ahead d 1
   behind-header = step-on d 0 at-first-record n>0
 
   turned : behind-header .assignment ≡ nothingYet R10
@@ -224,3 +224,102 @@ module _ (d : List ℕ) (figures : Totals) (v : Weighed d figures) where
       ap (λ (x : List (List ℕ)). bytesOf (withEnds start x)) (records-are ∙ ap (λ (x : List (List ℕ)). r ∷ x) i)
       ∙ ap bytesOf (ten-written r s (recordsFrom 2 d) header k)
       ∙ ap₂ (λ (f : Totals) (x : List (List ℕ)). r ++ bytesOf (behindEnd (sofar f) x)) (sym (ten-gained r header)) (sym i)
+
+-- ---- the writing: the file is written up to the k-th record of the draft, and at bytes long so far
+pub record Going (d before out : List ℕ) (at k : ℕ) : Type 0 where
+  pub written : List ℕ
+  pub wrote : Wrote written before out
+  pub place : at ≡ length written
+  pub most : k ≤ length d / 81
+  pub few : length d / 81 ≤ 200000
+  pub ahead : Ahead d k
+  pub opener : k < length d / 81 → opens (recordAt k d) ≡ true
+  pub all : closedFile d ≡ written ++ bytesOf (behindEnd (sofar (gains (chunks k d))) (recordsFrom k d))
+  pub room : length (closedFile d) ≤ length before
+
+within-room : (x a b c : List ℕ) (n : ℕ) → x ≡ a ++ (b ++ c) → length x ≤ n → length a + length b ≤ n
+within-room x a b c n e h = omega (arith, ap length e ∙ length-append a (b ++ c), length-append b c)
+
+pub going-start : (d : List ℕ) (figures : Totals) (before out : List ℕ) → Weighed d figures → length (closedFile d) ≤ length before → out ≡ span 0 1 d ++ drop (length (span 0 1 d)) before → Going d before out 81 1
+going-start d figures before out v room q =
+    let l = span-length 0 1 d (omega arith) (omega (arith, more-records d figures v)) in
+    let b = begins d figures v in
+    record {
+      written = span 0 1 d;
+      wrote = at-first (span 0 1 d) before out (length (span 0 1 d)) refl (omega (arith, within-room _ [] (span 0 1 d) _ (length before) b room)) q;
+      place = sym l;
+      most = omega (arith, more-records d figures v);
+      few = v .few;
+      ahead = behind-header d figures v;
+      opener = λ _. first-opens d figures v;
+      all = b;
+      room = room;
+    }
+
+module _ (d before out : List ℕ) (at k : ℕ) (g : Going d before out at k) where
+  pub out-long : length out ≡ length before
+  out-long = wrote-length (g .written) before out (g .wrote)
+
+  pub at-within : at ≤ length out
+  at-within = omega (arith, g .place, g .wrote .room, out-long)
+
+  module _ (h : k < length d / 81) (n : ℕ) (t : AssignmentTotals) (b : Block d k n t) where
+    -- what is written for the assignment, and what is left behind it
+    turn-bytes : closedFile d ≡ g .written ++ ((span k n d ++ endOf d k t) ++ bytesOf (behindEnd (sofar (gains (chunks n d))) (recordsFrom n d)))
+    unfolding bytesOf
+    turn-bytes =
+        let left = behindEnd (sofar (gains (chunks n d))) (recordsFrom n d) in
+        g .all
+        ∙ ap (λ (x : List ℕ). g .written ++ x)
+        (ap bytesOf (b .same (sofar (gains (chunks k d)))) ∙ bytes-join (between k n d) _
+        ∙ ap₂ (λ (x : List ℕ) (y : Totals). x ++ (endOf d k t ++ bytesOf (behindEnd y (recordsFrom n d)))) (span-is k n d (omega (arith, b .more)) (b .most)) (block-more (gains (chunks k d)) (gains (chunks n d)) (t .totals) (b .one) (b .total))
+        ∙ sym (append-assoc (span k n d) (endOf d k t) (bytesOf left)))
+
+    piece-length : length (span k n d ++ endOf d k t) ≡ 81 * n - 81 * k + 81
+    piece-length = length-append (span k n d) (endOf d k t) ∙ ap₂ _+_ (span-length k n d (omega (arith, b .more)) (b .most)) (end-length _ 88 (t .totals) (t .last))
+
+    fits : length (g .written) + length (span k n d ++ endOf d k t) ≤ length before
+    fits = within-room _ (g .written) (span k n d ++ endOf d k t) _ (length before) turn-bytes (g .room)
+
+    pub has-room : 81 * n - 81 * k + 81 ≤ length (take (length out - at) (drop at out))
+    has-room = room-behind out at (81 * n - 81 * k + 81) (omega (arith, fits, piece-length, g .place, out-long))
+
+    pub going-next : (m : ℕ) (last : List ℕ) → m ≡ 81 * n - 81 * k + 81 → last ≡ (span k n d ++ endOf d k t) ++ drop m (take (length out - at) (drop at out))
+        → Going d before (putMid at (length out - at) out last) (at + m) n
+    going-next m last e q =
+        record {
+          written = g .written ++ (span k n d ++ endOf d k t);
+          wrote = behind (g .written) before out (span k n d ++ endOf d k t) last at m (g .wrote) (g .place) (e ∙ sym piece-length) fits q;
+          place = ap₂ _+_ (g .place) (e ∙ sym piece-length) ∙ sym (length-append (g .written) (span k n d ++ endOf d k t));
+          most = b .most;
+          few = g .few;
+          ahead = b .ahead;
+          opener = b .opener;
+          all = turn-bytes ∙ sym (append-assoc (g .written) (span k n d ++ endOf d k t) (bytesOf (behindEnd (sofar (gains (chunks n d))) (recordsFrom n d))));
+          room = g .room;
+        }
+
+  -- behind the last assignment
+  module _ (h : length d / 81 ≤ k) (figures : Totals) (v : Weighed d figures) where
+    last-bytes : closedFile d ≡ g .written ++ endRecord 0 89 figures (date 0)
+    unfolding bytesOf behindEnd
+    last-bytes =
+        let e : k ≡ length d / 81 = omega (arith, g .most) in
+        let f : sofar (gains (chunks k d)) ⊕ oneRecord ≡ figures =
+        all-told (gains (chunks k d)) ∙ ap (λ (x : ℕ). closedFigures (gains (chunks x d))) e ∙ ap closedFigures (sym (ran d figures v .total ∙ none-⊕ (gains (recordsOf d)))) ∙ sym (v .figured) in
+        g .all
+        ∙ ap (λ (x : List (List ℕ)). g .written ++ bytesOf (behindEnd (sofar (gains (chunks k d))) x)) (rest-end d (length d / 81) k e)
+        ∙ ap (λ (x : Totals). g .written ++ (endRecord 0 89 x (date 0) ++ [])) f
+        ∙ ap (λ (x : List ℕ). g .written ++ x) (append-nil (endRecord 0 89 figures (date 0)))
+
+    last-fits : length (g .written) + length (endRecord 0 89 figures (date 0)) ≤ length before
+    last-fits = omega (arith, g .room, ap length last-bytes ∙ length-append (g .written) (endRecord 0 89 figures (date 0)))
+
+    pub last-room : 81 ≤ length (take (length out - at) (drop at out))
+    last-room = room-behind out at 81 (omega (arith, last-fits, end-length 0 89 figures (date 0), g .place, out-long))
+
+    pub going-last : (last : List ℕ) → last ≡ endRecord 0 89 figures (date 0) ++ drop 81 (take (length out - at) (drop at out))
+        → putMid at (length out - at) out last ≡ closedFile d ++ drop (length (closedFile d)) before
+    going-last last q =
+        let w = behind (g .written) before out (endRecord 0 89 figures (date 0)) last at 81 (g .wrote) (g .place) (sym (end-length 0 89 figures (date 0))) last-fits q in
+        told _ (closedFile d) before _ (length (closedFile d)) w (sym last-bytes) refl
