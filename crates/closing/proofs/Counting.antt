@@ -8,8 +8,9 @@ use native.Mathlib.Omega.{arith}
 use borrow.Author.Tests.{eq-eqb, ne-eqb}
 use lib.ListN.{length}
 use Rattle.choice.specs.Choice.{if_then_else_}
+use Rattle.dates.specs.declared.Service.the-variants.{Autogiro, Remittance}
 use Rattle.operations.specs.Closing.{opens, openings}
-use Rattle.rules.specs.Codes.{recordCode}
+use Rattle.rules.specs.Codes.{serviceCode, recordCode, codeFor, serviceFor}
 use Rattle.rules.specs.Run.{recordsOf}
 use Rattle.running.proofs.Records.{rest, rest-next, rest-end, rest-start, part-is}
 use Rattle.drafts.specs.Block.{recordAt}
@@ -24,9 +25,12 @@ opened r n e h = ap oneIf (sym (eq-eqb (recordCode r) 20 (sym e ∙ h)))
 pub not-opened : (r : List ℕ) (n : ℕ) → n ≡ recordCode r → (n ≡ 20 → ⊥) → 0 ≡ oneIf (opens r)
 not-opened r n e h = ap oneIf (sym (ne-eqb (recordCode r) 20 (λ q. h (e ∙ q))))
 
-one-at-most : (b : Bool) → oneIf b ≤ 1
-one-at-most true = omega arith
-one-at-most false = omega arith
+at-most : (b : Bool) → oneIf b ≤ 1
+at-most true = omega arith
+at-most false = omega arith
+
+pub one-at-most : (r : List ℕ) (x : ℕ) → x ≡ oneIf (opens r) → x ≤ 1
+one-at-most r x e = omega (arith, e, at-most (opens r))
 
 -- behind k records
 pub record Counted (d : List ℕ) (found k : ℕ) : Type 0 where
@@ -41,7 +45,7 @@ pub counted-next : (d : List ℕ) (found k x : ℕ) → Counted d found k → k 
 unfolding openings
 counted-next d found k x c h e =
     let i : x ≡ oneIf (opens (recordAt k d)) = e ∙ ap (λ (r : List ℕ). oneIf (opens r)) (part-is d k) in
-    let o = one-at-most (opens (recordAt k d)) in
+    let o = at-most (opens (recordAt k d)) in
     let s : openings (rest d (length d / 81) k) ≡ oneIf (opens (recordAt k d)) + openings (rest d (length d / 81) (k + 1)) = ap openings (rest-next d (length d / 81) k h) in
     record { within = omega arith; few = omega (arith, c .few, i, o); same = c .same ∙ omega (arith, s, i) }
 
@@ -50,3 +54,10 @@ unfolding openings
 counted-all d found k c h =
     let s : openings (rest d (length d / 81) k) ≡ 0 = ap openings (rest-end d (length d / 81) k (omega (arith, c .within))) in
     (omega (arith, c .same, s), omega (arith, c .few, c .within))
+
+-- ---- the service that a record 20 names
+pub charges : (r : List ℕ) (n : ℕ) → n ≡ serviceCode r → n ≡ 1 → 1 ≡ codeFor (serviceFor (serviceCode r))
+charges r n e h = ap (λ (x : ℕ). codeFor (serviceFor x)) (sym (sym e ∙ h))
+
+pub remits : (r : List ℕ) (n : ℕ) → n ≡ serviceCode r → (n ≡ 1 → ⊥) → 4 ≡ codeFor (serviceFor (serviceCode r))
+remits r n e h = ap (λ (b : Bool). codeFor (if b then Autogiro else Remittance)) (sym (ne-eqb (serviceCode r) 1 (λ q. h (e ∙ q))))

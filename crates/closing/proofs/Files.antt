@@ -9,7 +9,7 @@ use borrow.Author.Tests.{eqb-true, eq-eqb, ne-eqb, ltb-true, ltb-false}
 use borrow.Rule.Slice.PartMut.{putMid}
 use lib.Dec.{eqb, ltb}
 use lib.ListN.{length, take, drop, length-append, length-take, length-drop}
-use lib.Seq.{take-add}
+use lib.Seq.{take-add, drop-drop, drop-append-seam, drop-append-add}
 use Rattle.choice.specs.Choice.{if_then_else_}
 use Rattle.dates.specs.Dates.{date, earlier}
 use Rattle.dates.specs.declared.Date.{Date}
@@ -38,12 +38,12 @@ use Rattle.rules.specs.declared.Mode.the-variants.{File, Draft}
 use Rattle.rules.specs.declared.State.{State}
 use Rattle.rules.proofs.Codes.{twenty}
 use Rattle.running.proofs.Loop.{small-start}
-use Rattle.running.proofs.Records.{rest-start, rest-end}
+use Rattle.running.proofs.Records.{rest-start, rest-end, part-is}
 use Rattle.writing.proofs.Wrote.{Wrote, at-first, behind, told, wrote-length, room-behind, end-length}
 use Rattle.drafts.specs.Block.{recordsFrom, between, recordAt, state, Ahead, behindEnd, Block}
 use Rattle.drafts.proofs.Within.{twenty-code}
-use Rattle.drafts.proofs.Walk.{next-of, plain, holds, step-on, step-turned}
-use Rattle.closing.specs.Weighed.{span, endOf, Weighed}
+use Rattle.drafts.proofs.Walk.{next-of, plain, holds, step-on, step-turned, handed}
+use Rattle.closing.specs.Weighed.{span, endOf, InDraft, Weighed}
 
 -- ---- records and bytes
 bytes-join : (xs ys : List (List ℕ)) → bytesOf (xs ++ ys) ≡ bytesOf xs ++ bytesOf ys
@@ -240,21 +240,39 @@ pub record Going (d before out : List ℕ) (at k : ℕ) : Type 0 where
 within-room : (x a b c : List ℕ) (n : ℕ) → x ≡ a ++ (b ++ c) → length x ≤ n → length a + length b ≤ n
 within-room x a b c n e h = omega (arith, ap length e ∙ length-append a (b ++ c), length-append b c)
 
-pub going-start : (d : List ℕ) (figures : Totals) (before out : List ℕ) → Weighed d figures → length (closedFile d) ≤ length before → out ≡ span 0 1 d ++ drop (length (span 0 1 d)) before → Going d before out 81 1
+-- behind the 10, which lies over the start of the output already
+pub going-start : (d : List ℕ) (figures : Totals) (before out : List ℕ) → Weighed d figures → length (closedFile d) ≤ length before → out ≡ span 0 1 d ++ drop (length (span 0 1 d)) before → Going d out out 81 1
 going-start d figures before out v room q =
+    let s = span 0 1 d in
     let l = span-length 0 1 d (omega arith) (omega (arith, more-records d figures v)) in
     let b = begins d figures v in
+    let f = within-room _ [] s _ (length before) b room in
+    let w = at-first s before out (length s) refl (omega (arith, f)) q in
     record {
-      written = span 0 1 d;
-      wrote = at-first (span 0 1 d) before out (length (span 0 1 d)) refl (omega (arith, within-room _ [] (span 0 1 d) _ (length before) b room)) q;
+      written = s;
+      wrote = at-first s out out (length s) refl (omega (arith, f, wrote-length s before out w)) (q ∙ ap (λ (x : List ℕ). s ++ x) (sym (ap (drop (length s)) q ∙ drop-append-seam s (drop (length s) before))));
       place = sym l;
       most = omega (arith, more-records d figures v);
       few = v .few;
       ahead = behind-header d figures v;
       opener = λ _. first-opens d figures v;
       all = b;
-      room = room;
+      room = omega (arith, room, wrote-length s before out w);
     }
+
+pub start-fits : (d : List ℕ) (figures : Totals) (before : List ℕ) → Weighed d figures → length (closedFile d) ≤ length before → length (span 0 1 d) ≤ length before
+start-fits d figures before v room = omega (arith, within-room _ [] (span 0 1 d) _ (length before) (begins d figures v) room)
+
+-- and the whole lies over it in the end
+pub over-start : (d : List ℕ) (figures : Totals) (before out last : List ℕ) → Weighed d figures → out ≡ span 0 1 d ++ drop (length (span 0 1 d)) before
+    → last ≡ closedFile d ++ drop (length (closedFile d)) out → last ≡ closedFile d ++ drop (length (closedFile d)) before
+over-start d figures before out last v q e =
+    let s = span 0 1 d in
+    let n = length (closedFile d) in
+    let more : length s ≤ n = omega (arith, ap length (begins d figures v) ∙ length-append s _) in
+    let i : n ≡ length s + (n - length s) = omega arith in
+    e ∙ ap (λ (x : List ℕ). closedFile d ++ x) (ap (λ (x : ℕ). drop x out) i ∙ ap (drop (length s + (n - length s))) q ∙ drop-append-add s (drop (length s) before) (n - length s)
+    ∙ drop-drop (n - length s) (length s) before ∙ ap (λ (x : ℕ). drop x before) (sym i))
 
 module _ (d before out : List ℕ) (at k : ℕ) (g : Going d before out at k) where
   pub out-long : length out ≡ length before
@@ -281,8 +299,11 @@ module _ (d before out : List ℕ) (at k : ℕ) (g : Going d before out at k) wh
     fits : length (g .written) + length (span k n d ++ endOf d k t) ≤ length before
     fits = within-room _ (g .written) (span k n d ++ endOf d k t) _ (length before) turn-bytes (g .room)
 
+    pub ends-within : at + (81 * n - 81 * k + 81) ≤ length out
+    ends-within = omega (arith, fits, piece-length, g .place, out-long)
+
     pub has-room : 81 * n - 81 * k + 81 ≤ length (take (length out - at) (drop at out))
-    has-room = room-behind out at (81 * n - 81 * k + 81) (omega (arith, fits, piece-length, g .place, out-long))
+    has-room = room-behind out at (81 * n - 81 * k + 81) ends-within
 
     pub going-next : (m : ℕ) (last : List ℕ) → m ≡ 81 * n - 81 * k + 81 → last ≡ (span k n d ++ endOf d k t) ++ drop m (take (length out - at) (drop at out))
         → Going d before (putMid at (length out - at) out last) (at + m) n
@@ -323,3 +344,22 @@ module _ (d before out : List ℕ) (at k : ℕ) (g : Going d before out at k) wh
     going-last last q =
         let w = behind (g .written) before out (endRecord 0 89 figures (date 0)) last at 81 (g .wrote) (g .place) (sym (end-length 0 89 figures (date 0))) last-fits q in
         told _ (closedFile d) before _ (length (closedFile d)) w (sym last-bytes) refl
+
+-- ---- an assignment and its 88, put over the start of a list
+pub assignment-put : (d before copied last : List ℕ) (k n : ℕ) (t : AssignmentTotals) → InDraft d k n → 81 * n - 81 * k + 81 ≤ length before
+    → (s : ℕ) → s ≡ codeFor (serviceFor (serviceCode (handed d k)))
+    → copied ≡ span k n d ++ drop (length (span k n d)) before
+    → last ≡ endRecord s 88 (t .totals) (t .last) ++ drop 81 (take (length copied - (81 * n - 81 * k)) (drop (81 * n - 81 * k) copied))
+    → putMid (81 * n - 81 * k) (length copied - (81 * n - 81 * k)) copied last ≡ (span k n d ++ endOf d k t) ++ drop (81 * n - 81 * k + 81) before
+assignment-put d before copied last k n t i room s e p q =
+    let l = span-length k n d (omega (arith, i .more)) (i .most) in
+    let end = endRecord s 88 (t .totals) (t .last) in
+    let el = end-length s 88 (t .totals) (t .last) in
+    let w = at-first (span k n d) before copied (length (span k n d)) refl (omega (arith, l)) p in
+    let x = behind (span k n d) before copied end last (81 * n - 81 * k) 81 w (sym l) (sym el) (omega (arith, l, el)) q in
+    let same : end ≡ endOf d k t = ap (λ (y : ℕ). endRecord y 88 (t .totals) (t .last)) (e ∙ ap (λ (r : List ℕ). codeFor (serviceFor (serviceCode r))) (part-is d k)) in
+    told _ (span k n d ++ endOf d k t) before _ (81 * n - 81 * k + 81) x (ap (λ (y : List ℕ). span k n d ++ y) same) (length-append (span k n d) (endOf d k t) ∙ ap₂ _+_ l (end-length _ 88 (t .totals) (t .last)))
+
+-- what is written over the start of a list leaves its length
+pub over-length : (w before : List ℕ) → length w ≤ length before → length (w ++ drop (length w) before) ≡ length before
+over-length w before h = length-append w (drop (length w) before) ∙ simp length-drop (omega arith)

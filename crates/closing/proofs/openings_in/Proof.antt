@@ -1,3 +1,12 @@
+-- Behind k records the count is that of those records, and never above k.
+-- Assumes nothing.
+use Prim.Native.Nat.{_-_, _/_, _≤_}
+use mathlib.Core.Path.{_≡_, refl}
+use native.Mathlib.Omega.{arith}
+use borrow.Author.Needs.{needs}
+use lib.ListN.{length}
+use Rattle.drafts.proofs.Walk.{handed}
+use Rattle.closing.proofs.Counting.{Counted, counted-none, counted-next, counted-all, one-at-most}
 use Rattle.closing.proofs.openings_in.Statement.{statement}
 use Rattle.closing.proofs.openings_in.Tie as tie
 use Rattle.closing.proofs.openings_in.Reads as reads
@@ -5,46 +14,46 @@ use Rattle.closing.proofs.openings_in.Lts as lts
 use Rattle.closing.proofs.opening.Reads as opening-reads
 
 abbrev Inv-loop : tie.InvT-loop
-Inv-loop draft count found₀ k₀ found k = ?
+Inv-loop draft count found₀ k₀ found k = Counted draft found k × (count ≡ length draft / 81)
 
 abbrev μ-loop : tie.MeasureT-loop
-μ-loop draft count found₀ k₀ found k = ?
+μ-loop draft count found₀ k₀ found k = length draft / 81 - k
 
 loop-holds : tie.Need-loop-holds Inv-loop μ-loop
-loop-holds c = ?
+loop-holds c = (counted-none _, refl)
 
 mul-at : tie.Need-mul-at Inv-loop μ-loop
-mul-at c = ?
+mul-at c = search needs
 
 add-end : tie.Need-add-end Inv-loop μ-loop
-add-end c = ?
+add-end c = search needs
 
 sub-opening : tie.Need-sub-opening Inv-loop μ-loop
-sub-opening c = ?
+sub-opening c = search needs
 
 part-opening-start : tie.Need-part-opening-start Inv-loop μ-loop
-part-opening-start c = ?
+part-opening-start c = search needs
 
 part-opening-end : tie.Need-part-opening-end Inv-loop μ-loop
-part-opening-end c = ?
+part-opening-end c = search needs
 
 opening-requires : tie.Need-opening-requires Inv-loop μ-loop
-opening-requires c κs = ?
+opening-requires c κs = search needs
 
 add-found : tie.Need-add-found Inv-loop μ-loop
-add-found c = ?
+add-found c = omega (arith, c .before .before .before .loop .inv .0 .few, one-at-most (handed (c .before .before .before .before .before .args .draft .now) (c .before .before .before .loop .k)) _ (c .opening .ensures))
 
 add-k : tie.Need-add-k Inv-loop μ-loop
-add-k c = ?
+add-k c = search needs
 
 loop-less : tie.Need-loop-less Inv-loop μ-loop
-loop-less c = ?
+loop-less c = search needs
 
 loop-again : tie.Need-loop-again Inv-loop μ-loop
-loop-again c = ?
+loop-again c = (counted-next _ _ _ _ (c .before .before .before .loop .inv .0) (omega arith) (c .opening .ensures), refl)
 
 returns : tie.Need-returns Inv-loop μ-loop
-returns c = ?
+returns c = counted-all _ _ _ (c .before .loop .inv .0) (omega arith)
 
 pub openings-in-spec : {M : Type 1} → statement M
 openings-in-spec =
