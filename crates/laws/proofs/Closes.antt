@@ -84,6 +84,14 @@ table-20 w f f′ ks r a g l fit h = transfer f f′ ks ks r (record20 a r) h (a
 pub anew : (a a′ : Assignment) (r : List ℕ) → kindOf r ≡ R20 → turn r a ≡ turn r a′
 anew a a′ r k = ap (λ (x : Kind). turnFor x r a) k ∙ sym (ap (λ (x : Kind). turnFor x r a′) k)
 
+-- what fits depends on the file's sum and its number of assignments alone
+pub refits : (f f′ : Totals) (ks : List ℕ) (g : Totals) (l : List ℕ) → f .sum .0 ≡ f′ .sum .0 → f .assignments .0 ≡ f′ .assignments .0 → Fits f ks g l → Fits f′ ks g l
+refits f f′ ks g l s n h = record { sums = omega (arith, s, h .sums); rooms = omega (arith, n, h .rooms); news = h .news }
+
+-- one record more is nothing to it
+pub fits-counted : (f : Totals) (ks : List ℕ) (g : Totals) (l : List ℕ) → Fits f ks g l → Fits (f ⊕ oneRecord) ks g l
+fits-counted f ks g l h = refits f (f ⊕ oneRecord) ks g l (omega arith) (omega arith) h
+
 module _ (w : Window) where
   -- a draft under way, behind a state of the file that it is closed to
   pub record Drafted (st : State) (ks : List ℕ) (rs : List (List ℕ)) : Type 0 where
@@ -115,9 +123,6 @@ module _ (w : Window) where
       ((λ e. true≢false (sym (ap (λ (k : Kind). anEnd (numberOfKind k)) e) ∙ v .kept)), no-ends (f ⊕ gain r) (ks ++ keys r) (turn r a) rs (v .on) (h .1))
 
   -- one record more in the file changes nothing
-  fits-counted : (f : Totals) (ks : List ℕ) (g : Totals) (l : List ℕ) → Fits f ks g l → Fits (f ⊕ oneRecord) ks g l
-  fits-counted f ks g l h = record { sums = omega (arith, h .sums); rooms = omega (arith, h .rooms); news = h .news }
-
   abbrev counted : State → State
   counted st = record { file = st .file ⊕ oneRecord; assignment = st .assignment }
 

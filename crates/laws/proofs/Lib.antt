@@ -8,3 +8,4 @@ pub mod EndRecords
 pub mod Places
 pub mod EndsPut
 pub mod Closes
+pub mod Strips

@@ -204,9 +204,11 @@ module _ (a : Assignment) (f : Totals) (k : Kind) (s : Stands a f) where
       mp (stands (a .last) b && mayFollow File a k) (file-says b k (λ m j. mayFollow m a j)) (always file-test file-everywhere b a k)
       (and-both (stands (a .last) b) (mayFollow File a k) s m)
 
+  pub file-type : mayFollow File a k ≡ true → k ≡ Other → ⊥
+  file-type m = known k (and-left (not (eqb (numberOfKind k) 0)) _ (says m))
+
   -- a record that may stand in the file, and is no end
   pub record InFile : Type 0 where
-    pub type : k ≡ Other → ⊥
     pub draft : mayFollow Draft a k ≡ true
     pub plain : reopens k (ltb 0 (f .assignments .0)) ≡ false
 
@@ -219,7 +221,6 @@ module _ (a : Assignment) (f : Totals) (k : Kind) (s : Stands a f) where
       let c : (if anEnd n then one else two) ≡ true = and-right (not (eqb n 0)) (if anEnd n then one else two) (says m) in
       let d : two ≡ true = rw e at c in
       record {
-        type = known k (and-left (not (eqb n 0)) (if anEnd n then one else two) (says m));
         draft = and-left (mayFollow Draft a k) (not (reopens k b)) d;
         plain = not-true (reopens k b) (and-right (mayFollow Draft a k) (not (reopens k b)) d);
       }
