@@ -122,6 +122,14 @@ module _ (w : Window) where
       let v = in-draft a f (kindOf r) r s (h .0 .1 .0) in
       ((λ e. true≢false (sym (ap (λ (k : Kind). anEnd (numberOfKind k)) e) ∙ v .kept)), no-ends (f ⊕ gain r) (ks ++ keys r) (turn r a) rs (v .on) (h .1))
 
+  -- behind it the draft stands where a draft can be
+  pub stands-behind : (f : Totals) (ks : List ℕ) (a : Assignment) (rs : List (List ℕ)) → Stands a f → Meets Draft w f ks a rs → Stands (turns a rs) (f ⊕ gains rs)
+  unfolding Meets AllHold turns gains
+  stands-behind f ks a [] s h = rw (add-zero (f .assignments .0)) s
+  stands-behind f ks a (r ∷ rs) s h =
+      subst (Stands (turns (turn r a) rs)) (⊕-assoc f (gain r) (gains rs))
+      (stands-behind (f ⊕ gain r) (ks ++ keys r) (turn r a) rs (in-draft a f (kindOf r) r s (h .0 .1 .0) .on) (h .1))
+
   -- one record more in the file changes nothing
   abbrev counted : State → State
   counted st = record { file = st .file ⊕ oneRecord; assignment = st .assignment }

@@ -9,3 +9,4 @@ pub mod Places
 pub mod EndsPut
 pub mod Closes
 pub mod Strips
+pub mod Closing
