@@ -1,7 +1,7 @@
 -- A draft that meets the rules, with its end records put in, is a file that meets them, and without them again it is the draft.
 -- Assumes nothing.
 use Prim.Native.Nat.{ℕ, _+_, _^_, _≤_, _<_}
-use mathlib.Core.Path.{_≡_, refl, sym, ap, ap₂, subst, _∙_}
+use mathlib.Core.Path.{_≡_, refl, sym, ap, subst, _∙_}
 use mathlib.Core.List.{List, [], _∷_, _++_}
 use mathlib.Core.Bool.{Bool, true, false, _&&_, true≢false}
 use native.Mathlib.Nat.{add-zero}
@@ -11,7 +11,6 @@ use lib.Dec.{eqb, ltb}
 use Rattle.fields.proofs.Tests.{and-left, and-right}
 use Rattle.dates.specs.declared.Window.{Window}
 use Rattle.figures.specs.Figures.{limitWide}
-use Rattle.figures.specs.Groups.{gives}
 use Rattle.figures.specs.Totals.{_⊕_, oneRecord}
 use Rattle.figures.specs.declared.totals.Totals.{Totals}
 use Rattle.figures.proofs.Laws.{⊕-assoc, ⊕-comm}
@@ -32,7 +31,7 @@ use Rattle.laws.specs.Fits.{Fits, NoEnd}
 use Rattle.laws.specs.Stripped.{anEnd, strip}
 use Rattle.laws.proofs.Frame.{transfer, asked, fits-on, frame}
 use Rattle.laws.proofs.EndRecords.{Small, its88, kind-88, holds-88, its89, kind-89, holds-89}
-use Rattle.laws.proofs.Places.{Stands, reopens, InDraft, in-draft}
+use Rattle.laws.proofs.Places.{Stands, reopens, in-draft}
 use Rattle.laws.proofs.EndsPut.{code-is, end-is, put-none, put-88, put-last, kept, taken-out, gain-88, keys-88, turn-88}
 
 -- ---- an assignment's figures are at most its file's, and transactions are records

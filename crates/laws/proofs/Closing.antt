@@ -1,13 +1,13 @@
 -- Demand 2 for closing, on bytes: the written file is accepted with its figures, has the draft's records, and is the one such file.
 -- Assumes nothing.
 use Prim.Native.Nat.{ℕ, _+_, _*_, _/_, _≤_, _<_}
-use mathlib.Core.Path.{_≡_, refl, sym, ap, ap₂, subst, _∙_}
+use mathlib.Core.Path.{_≡_, refl, sym, ap, subst, _∙_}
 use mathlib.Core.List.{List, [], _∷_, _++_}
 use mathlib.Core.Bool.{Bool, true, false, false≢true}
 use native.Mathlib.Nat.{add-zero}
 use native.Mathlib.Omega.{arith}
 use borrow.Author.Tests.{leb-true, le-leb, ltb-true}
-use lib.Dec.{leb, ltb}
+use lib.Dec.{leb}
 use lib.ListN.{length, drop}
 use Rattle.choice.specs.Choice.{if_then_else_}
 use Rattle.dates.specs.Windows.{windowOf}
@@ -20,8 +20,7 @@ use Rattle.figures.specs.Figures.{amount, count}
 use Rattle.figures.specs.Totals.{none, _⊕_}
 use Rattle.figures.specs.declared.totals.Totals.{Totals}
 use Rattle.figures.proofs.Laws.{none-⊕}
-use Rattle.layout.specs.Rows.{member}
-use Rattle.rules.specs.Order.{mayFollow, mayEnd}
+use Rattle.rules.specs.Order.{mayEnd}
 use Rattle.rules.specs.Growth.{start}
 use Rattle.rules.specs.Run.{refused, run, recordsOf, badLength, mostRecords, onWindow, checkOf}
 use Rattle.rules.specs.declared.Mode.the-variants.{File, Draft}
@@ -32,14 +31,14 @@ use Rattle.operations.specs.Closing.{openings, toWrite, closedFigures, given, o
 use Rattle.laws.specs.Meets.{gains, turns, Meets, Ends, Lawful}
 use Rattle.laws.specs.Plain.{FiguresOf}
 use Rattle.laws.specs.Stripped.{strip, stripped}
-use Rattle.laws.proofs.Sound.{Ran, met, runs}
+use Rattle.laws.proofs.Sound.{met, runs}
 use Rattle.laws.proofs.Frame.{fitted}
 use Rattle.laws.proofs.Demand2.{Accepting, accepting, accepts, figures-of-records}
 use Rattle.laws.proofs.Bytes.{Sized, Whole, whole, whole-length, whole-bytes, record-count, bytes-length, records-again, bytes-again, sized-records}
 use Rattle.laws.proofs.Places.{at-88}
-use Rattle.laws.proofs.EndsPut.{sized-ends, sized-strip, gains-records, gains-openings, onlyRecords, Added, ends-add}
+use Rattle.laws.proofs.EndsPut.{sized-ends, sized-strip, gains-records, gains-openings, ends-add}
 use Rattle.laws.proofs.Closes.{Drafted, Closed, closes, stands-behind}
-use Rattle.laws.proofs.Strips.{Filed, Stripped, strips}
+use Rattle.laws.proofs.Strips.{Stripped, strips}
 
 -- ---- on records: an accepted draft
 module _ (w : Window) (ds : List (List ℕ)) (meets : Meets Draft w none [] (start .assignment) ds) (ends : Ends Draft (turns (start .assignment) ds)) where

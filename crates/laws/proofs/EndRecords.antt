@@ -18,7 +18,7 @@ use Rattle.fields.proofs.Tests.{and-left, and-right, and-both}
 use Rattle.fields.proofs.Every.{same-is, same-self}
 use Rattle.fields.proofs.Values.{number-yes, number-is, written-length}
 use Rattle.fields.proofs.Width.{digit-field}
-use Rattle.dates.specs.Dates.{date, ddmmyy, later}
+use Rattle.dates.specs.Dates.{date, ddmmyy}
 use Rattle.dates.specs.declared.Date.{Date}
 use Rattle.dates.specs.declared.Service.{Service}
 use Rattle.dates.specs.declared.Service.the-variants.{Autogiro, Remittance}

@@ -1,12 +1,11 @@
 -- End records put into a list of records and taken out of it: one record at a time, the sizes, and what all of them add.
 -- Assumes nothing.
-use Prim.Native.Nat.{ℕ, zero, suc, _+_, _≤_, _<_}
+use Prim.Native.Nat.{ℕ, suc, _+_, _<_}
 use mathlib.Core.Path.{_≡_, refl, sym, ap, ap₂, subst, _∙_}
 use mathlib.Core.List.{List, [], _∷_, _++_, append-nil}
-use mathlib.Core.Bool.{Bool, true, false, _&&_, false≢true}
-use native.Mathlib.Nat.{add-zero, zero-add}
+use mathlib.Core.Bool.{Bool, true, false, false≢true}
 use native.Mathlib.Omega.{arith}
-use borrow.Author.Tests.{eqb-true, eqb-false, lt-ltb, le-ltb, ltb-true, ltb-false}
+use borrow.Author.Tests.{eqb-true, eqb-false, lt-ltb}
 use lib.Dec.{eqb, ltb}
 use lib.ListN.{length}
 use Rattle.choice.specs.Choice.{if_then_else_}
@@ -14,8 +13,8 @@ use Rattle.dates.specs.Dates.{date, earlier}
 use Rattle.figures.specs.Figures.{amount, count}
 use Rattle.figures.specs.Totals.{none, _⊕_, oneRecord}
 use Rattle.figures.specs.declared.totals.Totals.{Totals}
-use Rattle.figures.proofs.Laws.{⊕-assoc, ⊕-comm, none-⊕, ⊕-none}
-use Rattle.rules.specs.Codes.{recordCode, kindFor, kindOf, numberOfKind}
+use Rattle.figures.proofs.Laws.{⊕-assoc, ⊕-comm, none-⊕}
+use Rattle.rules.specs.Codes.{recordCode, kindOf, numberOfKind}
 use Rattle.rules.proofs.Codes.{twenty, no-key}
 use Rattle.rules.specs.Growth.{gainFor, gain, turnFor, turn, keysFor, keys, after}
 use Rattle.rules.specs.declared.Assignment.{Assignment}

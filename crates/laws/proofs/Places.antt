@@ -1,13 +1,13 @@
 -- Where a draft can be, and what may follow there in the draft and in the file that it is closed to: two computed tests over every place.
 -- Assumes nothing.
-use Prim.Native.Nat.{ℕ, zero, suc, _+_, _<_}
+use Prim.Native.Nat.{ℕ, _+_}
 use mathlib.Core.Path.{_≡_, refl, sym, ap, _∙_}
 use mathlib.Core.Logic.{_⊎_, inl, inr}
 use mathlib.Core.List.{List, [], _∷_}
 use mathlib.Core.Bool.{Bool, true, false, not, _&&_, _||_, false≢true}
 use native.Mathlib.Nat.{add-zero}
 use native.Mathlib.Omega.{arith}
-use borrow.Author.Tests.{lt-ltb, not-true, eqb-false}
+use borrow.Author.Tests.{lt-ltb, not-true}
 use lib.Dec.{eqb, ltb, lit<}
 use Rattle.choice.specs.Choice.{if_then_else_}
 use Rattle.fields.specs.Bytes.{every}
@@ -20,7 +20,7 @@ use Rattle.figures.specs.declared.totals.Totals.{Totals}
 use Rattle.layout.specs.Rows.{member}
 use Rattle.rules.specs.Codes.{numberOfKind, kindFor}
 use Rattle.rules.proofs.Codes.{at-code}
-use Rattle.rules.specs.Order.{next, behind31, behind, mayFollow, isEnd}
+use Rattle.rules.specs.Order.{behind, mayFollow, isEnd}
 use Rattle.rules.specs.Growth.{gainFor, turnFor}
 use Rattle.rules.specs.declared.Assignment.{Assignment}
 use Rattle.rules.specs.declared.Kind.{Kind}

@@ -1,38 +1,36 @@
 -- A file that meets the rules, its end records taken out, is a draft that meets them, and closing puts the same end records back.
 -- Assumes nothing.
-use Prim.Native.Nat.{ℕ, _+_, _≤_}
+use Prim.Native.Nat.{ℕ}
 use mathlib.Core.Path.{_≡_, refl, sym, ap, subst, _∙_}
-use mathlib.Core.Logic.{_⊎_, inl, inr, ⊎-elim}
+use mathlib.Core.Logic.{_⊎_, inl, inr}
 use mathlib.Core.List.{List, [], _∷_, _++_}
-use mathlib.Core.Bool.{Bool, true, false, _&&_, true≢false, false≢true}
+use mathlib.Core.Bool.{Bool, true, false, _&&_, false≢true}
 use native.Mathlib.Nat.{add-zero}
 use native.Mathlib.Omega.{arith}
 use borrow.Author.Tests.{eqb-true}
 use lib.Dec.{eqb, ltb}
-use lib.ListN.{length}
 use Rattle.fields.proofs.Tests.{and-both}
 use Rattle.dates.specs.declared.Window.{Window}
 use Rattle.figures.specs.Groups.{gives}
 use Rattle.figures.specs.Totals.{_⊕_, oneRecord}
-use Rattle.figures.specs.declared.totals.Totals.{Totals}
-use Rattle.layout.specs.Rows.{AllHold, member}
+use Rattle.layout.specs.Rows.{AllHold}
 use Rattle.rules.specs.Codes.{recordCode, kindFor, kindOf, numberOfKind}
-use Rattle.rules.specs.Order.{mayFollow, mayEnd, isEnd}
-use Rattle.rules.specs.Layouts.{rows, tableFor, record20}
+use Rattle.rules.specs.Order.{mayFollow, mayEnd}
+use Rattle.rules.specs.Layouts.{rows, tableFor}
 use Rattle.rules.specs.Growth.{gainFor, gain, turnFor, turn, keysFor, keys, after}
 use Rattle.rules.specs.declared.Assignment.{Assignment}
 use Rattle.rules.specs.declared.Kind.{Kind}
-use Rattle.rules.specs.declared.Kind.the-variants.{R20, R88, R89, Other}
+use Rattle.rules.specs.declared.Kind.the-variants.{R20, R88, R89}
 use Rattle.rules.specs.declared.Mode.the-variants.{File, Draft}
 use Rattle.rules.specs.declared.State.{State}
-use Rattle.operations.specs.Closing.{opens, behind88, endsBefore, withEnds}
+use Rattle.operations.specs.Closing.{opens, behind88, withEnds}
 use Rattle.laws.specs.Meets.{gains, turns, allKeys, Meets, Ends}
-use Rattle.laws.specs.Fits.{Fits, NoEnd}
+use Rattle.laws.specs.Fits.{Fits}
 use Rattle.laws.specs.Stripped.{anEnd, strip}
 use Rattle.laws.proofs.Bytes.{Sized}
-use Rattle.laws.proofs.Frame.{transfer, asked, fits-on, fitted, frame}
-use Rattle.laws.proofs.EndRecords.{its88, kind-88, Ended, is-88, its89, kind-89, is-89}
-use Rattle.laws.proofs.Places.{Stands, reopens, InDraft, in-draft, file-type, InFile, in-file, at-88, no-89, no-end, behind-88, behind-89}
+use Rattle.laws.proofs.Frame.{fits-on, fitted, frame}
+use Rattle.laws.proofs.EndRecords.{its88, is-88, is-89}
+use Rattle.laws.proofs.Places.{Stands, in-draft, file-type, in-file, at-88, no-89, no-end, behind-88, behind-89}
 use Rattle.laws.proofs.EndsPut.{code-is, end-is, put-none, put-88, put-last, kept, taken-out}
 use Rattle.laws.proofs.Closes.{met-88, turns-88, table-20, anew, refits, fits-counted, no-ends}
 
