@@ -30,9 +30,10 @@ use Rattle.laws.specs.Meets.{gains, turns, allKeys, Meets, Ends}
 use Rattle.laws.specs.Fits.{Fits, NoEnd}
 use Rattle.laws.specs.Stripped.{anEnd, strip}
 use Rattle.laws.proofs.Frame.{transfer, asked, fits-on, frame}
+use Rattle.laws.proofs.Types.{code-is, end-is}
 use Rattle.laws.proofs.EndRecords.{Small, its88, kind-88, holds-88, its89, kind-89, holds-89}
-use Rattle.laws.proofs.Places.{Stands, reopens, in-draft}
-use Rattle.laws.proofs.EndsPut.{code-is, end-is, put-none, put-88, put-last, kept, taken-out, gain-88, keys-88, turn-88}
+use Rattle.laws.proofs.Places.{known, Stands, reopens, in-draft}
+use Rattle.laws.proofs.EndsPut.{put-none, put-88, put-last, kept, taken-out, gain-88, keys-88, turn-88}
 
 -- ---- an assignment's figures are at most its file's, and transactions are records
 pub record Below (a : Assignment) (f : Totals) : Type 0 where
@@ -197,7 +198,7 @@ module _ (w : Window) where
   closes-none st ks r rs e d c =
       let p = put-none st r rs e in
       let v = in-draft (st .assignment) (st .file) (kindOf r) r (d .place) (d .meets .0 .1 .0) in
-      let code = code-is r (kindOf r) refl (v .type) in
+      let code = code-is r (kindOf r) refl (known Draft (st .assignment) (kindOf r) (d .meets .0 .1 .0)) in
       let m = v .plain (ap (λ (n : ℕ). eqb n 20 && ltb 0 (st .file .assignments .0)) (sym code) ∙ e) in
       record {
         meets = subst (Meets File w (st .file) ks (st .assignment)) (sym p) ((d .meets .0 .0, (m, d .meets .0 .1 .1)), c .meets);
@@ -225,7 +226,7 @@ module _ (w : Window) where
       record {
         meets = subst (Meets File w f ks a) (sym p) (meets-88 w f ks a (its88 a) e88 (r ∷ withEnds (after (behind88 st) r) rs) h88 (h, c .meets));
         ends = subst (λ (x : List (List ℕ)). Ends File (turns a x)) (sym p) (subst (Ends File) (sym (turns-88 w f ks a (its88 a) e88 (r ∷ withEnds (after (behind88 st) r) rs))) (c .ends));
-        back = ap strip p ∙ taken-out (its88 a) _ (end-is (its88 a) R88 e88 refl) ∙ kept r _ (ap anEnd (code-is r (kindOf r) refl (v .type)) ∙ v .kept) ∙ ap (λ (x : List (List ℕ)). r ∷ x) (c .back);
+        back = ap strip p ∙ taken-out (its88 a) _ (end-is (its88 a) R88 e88 refl) ∙ kept r _ (ap anEnd (code-is r (kindOf r) refl (known Draft (st .assignment) (kindOf r) (d .meets .0 .1 .0))) ∙ v .kept) ∙ ap (λ (x : List (List ℕ)). r ∷ x) (c .back);
       }
 
   pub closes : (st : State) (ks : List ℕ) (rs : List (List ℕ)) → Drafted st ks rs → Closed st ks rs

@@ -28,17 +28,17 @@ use Rattle.figures.specs.Totals.{_⊕_, oneRecord}
 use Rattle.figures.specs.declared.totals.Totals.{Totals}
 use Rattle.figures.specs.Groups.{gives}
 use Rattle.layout.specs.Rows.{AllHold}
-use Rattle.rules.specs.Codes.{recordCode, codeFor, kindFor, kindOf, numberOfKind}
-use Rattle.rules.proofs.Codes.{at-codes}
+use Rattle.rules.specs.Codes.{recordCode, codeFor, kindFor, kindOf}
 use Rattle.rules.specs.Order.{mayFollow}
 use Rattle.rules.specs.Layouts.{rows, tableFor}
 use Rattle.rules.specs.Growth.{turnFor}
 use Rattle.rules.specs.declared.Assignment.{Assignment}
 use Rattle.rules.specs.declared.Kind.{Kind}
-use Rattle.rules.specs.declared.Kind.the-variants.{R88, R89, Other}
+use Rattle.rules.specs.declared.Kind.the-variants.{R88, R89}
 use Rattle.rules.specs.declared.Mode.the-variants.{File}
 use Rattle.operations.specs.Ends.{endRecord, end88, end89}
 use Rattle.operations.specs.Closing.{bytesOf}
+use Rattle.laws.proofs.Types.{code-is, no-other}
 use Rattle.laws.proofs.Bytes.{cuts, widths, total, laid-again, cut-again, laid-length}
 
 -- ---- one field: what it reads as, and what it is
@@ -245,25 +245,6 @@ infixr 20 _then_
 abbrev pub _then_ : {A B : Type 0} → A → B → A × B
 a then b = (a, b)
 
--- a code that is none of the nine is no type; so a type tells its code
-pub kind-number : (n : ℕ) → (kindFor n ≡ Other → ⊥) → numberOfKind (kindFor n) ≡ n
-unfolding kindFor
-kind-number n h = go n h
-  where
-    P : ℕ → Type 0
-    P n = (kindFor n ≡ Other → ⊥) → numberOfKind (kindFor n) ≡ n
-
-    go : (n : ℕ) → P n
-    go n =
-        at-codes P n (λ x. refl) (λ x. refl) (λ x. refl) (λ x. refl) (λ x. refl) (λ x. refl) (λ x. refl) (λ x. refl) (λ x. refl)
-        (λ a b c d e f g h i x. absurd (x (simp (a, b, c, d, e, f, g, h, i))))
-
-pub code-of : (k : Kind) (n : ℕ) → (k ≡ Other → ⊥) → kindFor n ≡ k → n ≡ numberOfKind k
-code-of k n o e = sym (kind-number n (λ x. o (sym e ∙ x))) ∙ ap numberOfKind e
-
-differs : (n : ℕ) (k : Kind) → numberOfKind k ≡ suc n → k ≡ Other → ⊥
-differs n k e o = let z : suc n ≡ 0 = sym e ∙ ap numberOfKind o in omega arith
-
 module _ (f : Totals) (ks r : List ℕ) (w : Window) (a : Assignment) where
   rows-88 : EndRows (codeFor (a .service)) 88 (a .totals .totals) (a .totals .last) r → mayFollow File a R88 ≡ true → gives (a .group) (a .due) ≡ true
       → AllHold f ks r (rows File w a r)
@@ -288,7 +269,7 @@ module _ (f : Totals) (ks r : List ℕ) (w : Window) (a : Assignment) where
           sender = t .1 .1 .0;
           service-is = eqb-true (codeOf (part 3 4 r)) (codeFor (a .service)) (t .1 .1 .1 .0);
           type-is = t .1 .1 .1 .1 .0;
-          record-is = code-of R88 (codeOf (part 7 8 r)) (differs 87 R88 refl) k;
+          record-is = code-is r R88 k (no-other R88 refl);
           transactions = (figures .0, figures .1 .0);
           records = (figures .1 .1 .0, figures .1 .1 .1 .0);
           sum = (figures .1 .1 .1 .1 .0, figures .1 .1 .1 .1 .1 .0);
@@ -322,7 +303,7 @@ module _ (f : Totals) (ks r : List ℕ) (w : Window) (a : Assignment) where
         sender = t .1 .0;
         service-is = zero-code (part 3 4 r) (t .1 .1 .0);
         type-is = t .1 .1 .1 .0;
-        record-is = code-of R89 (codeOf (part 7 8 r)) (differs 88 R89 refl) k;
+        record-is = code-is r R89 k (no-other R89 refl);
         transactions = (figures .0, figures .1 .0);
         records = (figures .1 .1 .0, figures .1 .1 .1 .0);
         sum = (figures .1 .1 .1 .1 .0, figures .1 .1 .1 .1 .1 .0);

@@ -3,7 +3,7 @@
 use Prim.Native.Nat.{ℕ, suc, _+_, _<_}
 use mathlib.Core.Path.{_≡_, refl, sym, ap, ap₂, subst, _∙_}
 use mathlib.Core.List.{List, [], _∷_, _++_, append-nil}
-use mathlib.Core.Bool.{Bool, true, false, false≢true}
+use mathlib.Core.Bool.{Bool, true, false}
 use native.Mathlib.Omega.{arith}
 use borrow.Author.Tests.{eqb-true, eqb-false, lt-ltb}
 use lib.Dec.{eqb, ltb}
@@ -14,7 +14,7 @@ use Rattle.figures.specs.Figures.{amount, count}
 use Rattle.figures.specs.Totals.{none, _⊕_, oneRecord}
 use Rattle.figures.specs.declared.totals.Totals.{Totals}
 use Rattle.figures.proofs.Laws.{⊕-assoc, ⊕-comm, none-⊕}
-use Rattle.rules.specs.Codes.{recordCode, kindOf, numberOfKind}
+use Rattle.rules.specs.Codes.{recordCode, kindOf}
 use Rattle.rules.proofs.Codes.{twenty, no-key}
 use Rattle.rules.specs.Growth.{gainFor, gain, turnFor, turn, keysFor, keys, after}
 use Rattle.rules.specs.declared.Assignment.{Assignment}
@@ -25,14 +25,7 @@ use Rattle.operations.specs.Closing.{opens, openings, behind88, endsBefore, wit
 use Rattle.laws.specs.Meets.{gains}
 use Rattle.laws.specs.Stripped.{anEnd, strip}
 use Rattle.laws.proofs.Bytes.{Sized}
-use Rattle.laws.proofs.EndRecords.{kind-number, its88, sized-88, kind-88, its89, sized-89, kind-89}
-
--- ---- a record's code, by its type
-pub code-is : (r : List ℕ) (k : Kind) → kindOf r ≡ k → (k ≡ Other → ⊥) → recordCode r ≡ numberOfKind k
-code-is r k e o = sym (kind-number (recordCode r) (λ x. o (sym e ∙ x))) ∙ ap numberOfKind e
-
-pub end-is : (r : List ℕ) (k : Kind) → kindOf r ≡ k → anEnd (numberOfKind k) ≡ true → anEnd (recordCode r) ≡ true
-end-is r k e h = ap anEnd (code-is r k e (λ x. false≢true (sym (ap (λ (y : Kind). anEnd (numberOfKind y)) x) ∙ h))) ∙ h
+use Rattle.laws.proofs.EndRecords.{its88, sized-88, kind-88, its89, sized-89, kind-89}
 
 -- ---- one record at a time
 module _ (st : State) (r : List ℕ) (rs : List (List ℕ)) where

@@ -3,6 +3,7 @@ pub mod First
 pub mod Frame
 pub mod Figures
 pub mod Demand2
+pub mod Types
 pub mod Bytes
 pub mod EndRecords
 pub mod Places

@@ -7,7 +7,6 @@ use mathlib.Core.List.{List, [], _∷_, _++_}
 use mathlib.Core.Bool.{Bool, true, false, _&&_, false≢true}
 use native.Mathlib.Nat.{add-zero}
 use native.Mathlib.Omega.{arith}
-use borrow.Author.Tests.{eqb-true}
 use lib.Dec.{eqb, ltb}
 use Rattle.fields.proofs.Tests.{and-both}
 use Rattle.dates.specs.declared.Window.{Window}
@@ -29,9 +28,10 @@ use Rattle.laws.specs.Fits.{Fits}
 use Rattle.laws.specs.Stripped.{anEnd, strip}
 use Rattle.laws.proofs.Bytes.{Sized}
 use Rattle.laws.proofs.Frame.{fits-on, fitted, frame}
+use Rattle.laws.proofs.Types.{type-of, code-is, end-is}
 use Rattle.laws.proofs.EndRecords.{its88, is-88, is-89}
-use Rattle.laws.proofs.Places.{Stands, in-draft, file-type, in-file, at-88, no-89, no-end, behind-88, behind-89}
-use Rattle.laws.proofs.EndsPut.{code-is, end-is, put-none, put-88, put-last, kept, taken-out}
+use Rattle.laws.proofs.Places.{Stands, in-draft, known, in-file, at-88, no-89, no-end, behind-88, behind-89}
+use Rattle.laws.proofs.EndsPut.{put-none, put-88, put-last, kept, taken-out}
 use Rattle.laws.proofs.Closes.{met-88, turns-88, table-20, anew, refits, fits-counted, no-ends}
 
 -- a state, or the state behind an 88 there, with what was put before
@@ -42,9 +42,6 @@ put false st = st
 abbrev pub lead : Bool → State → List (List ℕ)
 lead true st = its88 (st .assignment) ∷ []
 lead false st = []
-
-type-of : (n c : ℕ) → eqb n c ≡ true → kindFor n ≡ kindFor c
-type-of n c e = ap kindFor (eqb-true n c e)
 
 module _ (w : Window) where
   -- a file under way
@@ -72,7 +69,7 @@ module _ (w : Window) where
       let f = st .file in
       let a = st .assignment in
       let m = d .meets .0 .1 .0 in
-      let code = code-is r (kindOf r) refl (file-type a f (kindOf r) (d .place) m) in
+      let code = code-is r (kindOf r) refl (known File a (kindOf r) m) in
       let v = in-file a f (kindOf r) (d .place) m (ap anEnd (sym code) ∙ e) in
       let s = kept r rs e in
       let p = put-none st r (strip rs) (ap (λ (n : ℕ). eqb n 20 && ltb 0 (f .assignments .0)) code ∙ v .plain) in
@@ -124,7 +121,7 @@ module _ (w : Window) where
       let v = at-88 a f (d .place) (d .whole refl .0) in
       let m : mayFollow Draft a (kindOf r) ≡ true = subst (λ (k : Kind). mayFollow Draft a k ≡ true) (sym e) (v .1) in
       let u = in-draft a f (kindOf r) r (d .place) m in
-      let code = code-is r (kindOf r) refl (u .type) in
+      let code = code-is r (kindOf r) refl (known Draft a (kindOf r) m) in
       let s = kept r rs (ap anEnd code ∙ u .kept) in
       let p = put-88 st r (strip rs) (and-both (opens r) (ltb 0 (f .assignments .0)) (ap (λ (n : ℕ). eqb n 20) code ∙ ap (λ (k : Kind). eqb (numberOfKind k) 20) e) (v .0)) in
       let place : Stands (turn r a′) (f′ ⊕ gain r) = rw (add-zero (f .assignments .0)) (subst (λ (z : Assignment). Stands z (f ⊕ gain r)) (anew a a′ r e) (u .on)) in
