@@ -54,11 +54,16 @@ below-on R88 r a f h = omega arith
 below-on R89 r a f h = omega arith
 below-on Other r a f h = omega arith
 
+pub below-behind : (a : Assignment) (f : Totals) (rs : List (List ℕ)) → Below a f → Below (turns a rs) (f ⊕ gains rs)
+unfolding turns gains
+below-behind a f [] h = omega (arith, h)
+below-behind a f (r ∷ rs) h = subst (Below (turns (turn r a) rs)) (⊕-assoc f (gain r) (gains rs)) (below-behind (turn r a) (f ⊕ gain r) rs (below-on (kindOf r) r a f h))
+
 -- so they fit into the fields of the end records
 small-88 : (a : Assignment) (f : Totals) → Below a f → f .records .0 + 1 < 10 ^ 8 → f .sum .0 ≤ limitWide .0 → Small (a .totals .totals)
 small-88 a f b r s = omega arith
 
-small-89 : (a : Assignment) (f : Totals) → Below a f → f .records .0 + 1 < 10 ^ 8 → f .sum .0 ≤ limitWide .0 → Small f
+pub small-89 : (a : Assignment) (f : Totals) → Below a f → f .records .0 + 1 < 10 ^ 8 → f .sum .0 ≤ limitWide .0 → Small f
 small-89 a f b r s = omega arith
 
 -- ---- an 88 before more records

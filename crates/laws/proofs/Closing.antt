@@ -30,11 +30,12 @@ use Rattle.rules.specs.declared.Verdict.the-variants.{Accepted, Refused}
 use Rattle.operations.specs.Closing.{openings, toWrite, closedFigures, given, onAccepted, weigh, closeOf, withEnds, bytesOf, closedFile, lentAfter, closedBytes}
 use Rattle.laws.specs.Meets.{gains, turns, Meets, Ends, Lawful}
 use Rattle.laws.specs.Plain.{FiguresOf}
+use Rattle.laws.specs.View.{Sized}
 use Rattle.laws.specs.Stripped.{strip, stripped}
 use Rattle.laws.proofs.Sound.{met, runs}
 use Rattle.laws.proofs.Frame.{fitted}
 use Rattle.laws.proofs.Demand2.{Accepting, accepting, accepts, figures-of-records}
-use Rattle.laws.proofs.Bytes.{Sized, Whole, whole, whole-length, whole-bytes, record-count, bytes-length, records-again, bytes-again, sized-records}
+use Rattle.laws.proofs.Bytes.{Whole, whole, whole-length, whole-bytes, record-count, bytes-length, records-again, bytes-again, sized-records}
 use Rattle.laws.proofs.Places.{at-88}
 use Rattle.laws.proofs.EndsPut.{sized-ends, sized-strip, gains-records, gains-openings, ends-add}
 use Rattle.laws.proofs.Closes.{Drafted, Closed, closes, stands-behind}

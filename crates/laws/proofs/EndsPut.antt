@@ -23,8 +23,8 @@ use Rattle.rules.specs.declared.Kind.the-variants.{R10, R20, R30, R31, R40, R49
 use Rattle.rules.specs.declared.State.{State}
 use Rattle.operations.specs.Closing.{opens, openings, behind88, endsBefore, withEnds}
 use Rattle.laws.specs.Meets.{gains}
+use Rattle.laws.specs.View.{Sized}
 use Rattle.laws.specs.Stripped.{anEnd, strip}
-use Rattle.laws.proofs.Bytes.{Sized}
 use Rattle.laws.proofs.EndRecords.{its88, sized-88, kind-88, its89, sized-89, kind-89}
 
 -- ---- one record at a time
@@ -61,7 +61,7 @@ module _ (r : List ℕ) (k : kindOf r ≡ R88) where
   pub turn-88 : (a : Assignment) → turn r a ≡ turnFor R88 [] a
   turn-88 a = ap (λ (x : Kind). turnFor x r a) k
 
-gain-89 : (r : List ℕ) → kindOf r ≡ R89 → gain r ≡ oneRecord
+pub gain-89 : (r : List ℕ) → kindOf r ≡ R89 → gain r ≡ oneRecord
 gain-89 r k = ap (λ (x : Kind). gainFor x r) k
 
 -- ---- sizes

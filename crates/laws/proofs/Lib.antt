@@ -11,3 +11,4 @@ pub mod EndsPut
 pub mod Closes
 pub mod Strips
 pub mod Closing
+pub mod View

@@ -1,7 +1,7 @@
 -- Where a draft can be, and what may follow there in the draft and in the file that it is closed to: two computed tests over every place.
 -- Assumes nothing.
 use Prim.Native.Nat.{ℕ, _+_}
-use mathlib.Core.Path.{_≡_, refl, sym, subst, _∙_}
+use mathlib.Core.Path.{_≡_, refl, sym, ap, subst, _∙_}
 use mathlib.Core.Logic.{_⊎_, inl, inr}
 use mathlib.Core.List.{List, [], _∷_}
 use mathlib.Core.Bool.{Bool, true, false, not, _&&_, _||_, false≢true, true≢false}
@@ -239,3 +239,32 @@ behind-88 a k e m = go (eqb (numberOfKind k) 20) (eqb (numberOfKind k) 89) refl 
 pub behind-89 : (a : Assignment) (k : Kind) → a .last ≡ R89 → mayFollow File a k ≡ true → ⊥
 unfolding mayFollow member
 behind-89 a k e m = false≢true (rw e at m)
+
+pub may-89 : (a : Assignment) → a .last ≡ R88 → mayFollow File a R89 ≡ true
+unfolding mayFollow member
+may-89 a e = ap (λ (l : Kind). member 89 (behind File l (a .service) (a .code))) e
+
+-- an 89 stands behind an 88 alone
+before-test : Test
+before-test b l k may = implies (may File R89) (eqb (numberOfKind l) 88)
+
+before-everywhere : everywhere before-test ≡ true
+unfolding every kindFor member before-test
+before-everywhere = refl
+
+pub before-89 : (a : Assignment) → mayFollow File a R89 ≡ true → a .last ≡ R88
+unfolding kindFor before-test
+before-89 a m = type-by (a .last) 88 (mp (mayFollow File a R89) (eqb (numberOfKind (a .last)) 88) (always before-test before-everywhere true a R89) m)
+
+-- a file begins with a 10 and ends with an 89
+pub first-10 : (a : Assignment) (k : Kind) → a .last ≡ Other → mayFollow File a k ≡ true → k ≡ R10
+unfolding mayFollow member kindFor
+first-10 a k e m = go (eqb (numberOfKind k) 10) refl (rw e at m)
+  where
+    go : (x : Bool) → eqb (numberOfKind k) 10 ≡ x → x || false ≡ true → k ≡ R10
+    go true p h = type-by k 10 p
+    go false p h = absurd (false≢true h)
+
+pub last-89 : (k : Kind) → isEnd k ≡ true → k ≡ R89
+unfolding every kindFor
+last-89 k e = type-by k 89 (mp (isEnd k) (eqb (numberOfKind k) 89) (of-kind (λ k. implies (isEnd k) (eqb (numberOfKind k) 89)) refl k) e)

@@ -25,8 +25,8 @@ use Rattle.rules.specs.declared.State.{State}
 use Rattle.operations.specs.Closing.{opens, behind88, withEnds}
 use Rattle.laws.specs.Meets.{gains, turns, allKeys, Meets, Ends}
 use Rattle.laws.specs.Fits.{Fits}
+use Rattle.laws.specs.View.{Sized}
 use Rattle.laws.specs.Stripped.{anEnd, strip}
-use Rattle.laws.proofs.Bytes.{Sized}
 use Rattle.laws.proofs.Frame.{fits-on, fitted, frame}
 use Rattle.laws.proofs.Types.{type-of, code-is, end-is}
 use Rattle.laws.proofs.EndRecords.{its88, is-88, is-89}
