@@ -135,6 +135,11 @@ module _ (w : Window) where
       subst (Stands (turns (turn r a) rs)) (⊕-assoc f (gain r) (gains rs))
       (stands-behind (f ⊕ gain r) (ks ++ keys r) (turn r a) rs (in-draft a f (kindOf r) r s (h .0 .1 .0) .on) (h .1))
 
+  -- of the file it asks the sum, the number of assignments and the keys alone
+  pub recounted : (f f′ : Totals) (ks : List ℕ) (a : Assignment) (rs : List (List ℕ)) → f .sum .0 ≡ f′ .sum .0 → f .assignments .0 ≡ f′ .assignments .0 → Stands a f
+      → Fits f ks (gains rs) (allKeys rs) → Meets Draft w f ks a rs → Meets Draft w f′ ks a rs
+  recounted f f′ ks a rs s n p fit h = frame Draft w f f′ ks ks a rs (no-ends f ks a rs p h) (refits f f′ ks (gains rs) (allKeys rs) s n fit) h
+
   -- one record more in the file changes nothing
   abbrev counted : State → State
   counted st = record { file = st .file ⊕ oneRecord; assignment = st .assignment }
@@ -142,13 +147,12 @@ module _ (w : Window) where
   drafted-counted : (st : State) (ks : List ℕ) (rs : List (List ℕ)) → Drafted st ks rs → st .file .records .0 + gains rs .records .0 + gains rs .assignments .0 + 3 < 10 ^ 8
       → Drafted (counted st) ks rs
   drafted-counted st ks rs d few =
-      let fits = fits-counted (st .file) ks (gains rs) (allKeys rs) (d .fits) in
       record {
         place = rw (add-zero (st .file .assignments .0)) (d .place);
         below = omega (arith, d .below);
-        fits = fits;
+        fits = fits-counted (st .file) ks (gains rs) (allKeys rs) (d .fits);
         few = omega (arith, few);
-        meets = frame Draft w (st .file) (st .file ⊕ oneRecord) ks ks (st .assignment) rs (no-ends (st .file) ks (st .assignment) rs (d .place) (d .meets)) fits (d .meets);
+        meets = recounted (st .file) (st .file ⊕ oneRecord) ks (st .assignment) rs (omega arith) (omega arith) (d .place) (d .fits) (d .meets);
         ends = d .ends;
       }
 
@@ -221,6 +225,7 @@ module _ (w : Window) where
       let e88 = kind-88 a in
       let k = opens-20 st r e in
       let v = in-draft a f (kindOf r) r (d .place) (d .meets .0 .1 .0) in
+      let code = code-is r (kindOf r) refl (known Draft a (kindOf r) (d .meets .0 .1 .0)) in
       let m = v .closes (ap (λ (x : Kind). reopens x (ltb 0 (f .assignments .0))) k ∙ and-right (opens r) (ltb 0 (f .assignments .0)) e) in
       let t : AllHold f ks r (record20 a r) = subst (λ (x : Kind). AllHold f ks r (tableFor x w a r)) k (d .meets .0 .1 .1) in
       let fit = fits-counted f ks (gains (r ∷ rs)) (allKeys (r ∷ rs)) (d .fits) in
@@ -231,7 +236,7 @@ module _ (w : Window) where
       record {
         meets = subst (Meets File w f ks a) (sym p) (meets-88 w f ks a (its88 a) e88 (r ∷ withEnds (after (behind88 st) r) rs) h88 (h, c .meets));
         ends = subst (λ (x : List (List ℕ)). Ends File (turns a x)) (sym p) (subst (Ends File) (sym (turns-88 w f ks a (its88 a) e88 (r ∷ withEnds (after (behind88 st) r) rs))) (c .ends));
-        back = ap strip p ∙ taken-out (its88 a) _ (end-is (its88 a) R88 e88 refl) ∙ kept r _ (ap anEnd (code-is r (kindOf r) refl (known Draft (st .assignment) (kindOf r) (d .meets .0 .1 .0))) ∙ v .kept) ∙ ap (λ (x : List (List ℕ)). r ∷ x) (c .back);
+        back = ap strip p ∙ taken-out (its88 a) _ (end-is (its88 a) R88 e88 refl) ∙ kept r _ (ap anEnd code ∙ v .kept) ∙ ap (λ (x : List (List ℕ)). r ∷ x) (c .back);
       }
 
   pub closes : (st : State) (ks : List ℕ) (rs : List (List ℕ)) → Drafted st ks rs → Closed st ks rs

@@ -2,6 +2,7 @@
 -- Assumes nothing.
 use Prim.Native.Nat.{ℕ, _+_, _*_, _/_, _≤_, _<_}
 use mathlib.Core.Path.{_≡_, refl, sym, ap, subst, _∙_}
+use mathlib.Core.Logic.{_↔_}
 use mathlib.Core.List.{List, [], _∷_, _++_}
 use mathlib.Core.Bool.{Bool, true, false, false≢true}
 use native.Mathlib.Nat.{add-zero}
@@ -295,6 +296,27 @@ stripped-closes day b t e room fits =
 -- so it is the one accepted file with those records in that order
 pub closed-only : (day : ProcessDay) (b : List ℕ) (t : Totals) (d : List ℕ) → checkOf day b ≡ Accepted t → stripped b ≡ d → b ≡ closedFile d
 closed-only day b t d e s = sym (closed-again day b t (accepting day b t e)) ∙ ap closedFile s
+
+-- a draft closes exactly when there is such a file, and room for it
+pub record FileFor (day : ProcessDay) (d : List ℕ) (room : ℕ) : Type 0 where
+  pub file : List ℕ
+  pub figures : Totals
+  pub accepted : checkOf day file ≡ Accepted figures
+  pub records : stripped file ≡ d
+  pub fits : length file ≤ room
+
+pub closes-exactly : (day : ProcessDay) (d : List ℕ) (room : ℕ) → ((t : Totals) × (closeOf day d room ≡ Accepted t)) ↔ FileFor day d room
+closes-exactly day d room = (there, λ v. (v .figures, ap (λ (x : List ℕ). closeOf day x room) (sym (v .records)) ∙ stripped-closes day (v .file) (v .figures) (v .accepted) room (v .fits) .0))
+  where
+    there : (t : Totals) × (closeOf day d room ≡ Accepted t) → FileFor day d room
+    there v =
+        record {
+          file = closedFile d;
+          figures = v .0;
+          accepted = closed-accepted day d room (v .0) (v .1);
+          records = closed-keeps day d room (v .0) (v .1);
+          fits = closed-fits day d room (v .0) (v .1) .1;
+        }
 
 -- ---- the lent output
 -- what is written lies over its start, and the bytes behind it stay

@@ -1,4 +1,4 @@
--- Where a draft can be, and what may follow there in the draft and in the file that it is closed to: two computed tests over every place.
+-- Where a draft can be, and what may follow there in the draft and in the file that it is closed to, as tests computed over every place.
 -- Assumes nothing.
 use Prim.Native.Nat.{ℕ, _+_}
 use mathlib.Core.Path.{_≡_, refl, sym, ap, subst, _∙_}

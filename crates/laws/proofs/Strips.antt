@@ -27,12 +27,12 @@ use Rattle.laws.specs.Meets.{gains, turns, allKeys, Meets, Ends}
 use Rattle.laws.specs.Fits.{Fits}
 use Rattle.laws.specs.View.{Sized}
 use Rattle.laws.specs.Stripped.{anEnd, strip}
-use Rattle.laws.proofs.Frame.{fits-on, fitted, frame}
+use Rattle.laws.proofs.Frame.{fits-on, fitted}
 use Rattle.laws.proofs.Types.{type-of, code-is, end-is}
 use Rattle.laws.proofs.EndRecords.{its88, is-88, is-89}
 use Rattle.laws.proofs.Places.{Stands, in-draft, known, in-file, at-88, no-89, no-end, behind-88, behind-89}
 use Rattle.laws.proofs.EndsPut.{put-none, put-88, put-last, kept, taken-out}
-use Rattle.laws.proofs.Closes.{met-88, turns-88, table-20, anew, refits, fits-counted, no-ends}
+use Rattle.laws.proofs.Closes.{met-88, turns-88, table-20, anew, fits-counted, recounted}
 
 -- a state, or the state behind an 88 there, with what was put before
 abbrev pub put : Bool → State → State
@@ -139,9 +139,7 @@ module _ (w : Window) where
       let own : AllHold f ks r (rows Draft w a r)
       = (d .meets .0 .0, (m, subst (λ (k : Kind). AllHold f ks r (tableFor k w a r)) (sym e) (table-20 w f′ f ks r a (gains rs) (allKeys rs) room table))) in
       let fitted-rest = fitted Draft w (f′ ⊕ gain r) (ks ++ keys r) (turn r a′) (strip rs) (omega (arith, fits .sums)) (omega (arith, fits .rooms)) (x .meets) in
-      let fit = refits (f′ ⊕ gain r) (f ⊕ gain r) (ks ++ keys r) (gains (strip rs)) (allKeys (strip rs)) (omega arith) (omega arith) fitted-rest in
-      let rest = frame Draft w (f′ ⊕ gain r) (f ⊕ gain r) (ks ++ keys r) (ks ++ keys r) (turn r a′) (strip rs)
-      (no-ends w (f′ ⊕ gain r) (ks ++ keys r) (turn r a′) (strip rs) place (x .meets)) fit (x .meets) in
+      let rest = recounted w (f′ ⊕ gain r) (f ⊕ gain r) (ks ++ keys r) (turn r a′) (strip rs) (omega arith) (omega arith) place fitted-rest (x .meets) in
       record {
         same = ap (withEnds st) s ∙ p ∙ ap (λ (l : List (List ℕ)). its88 a ∷ r ∷ l) (x .same);
         meets = subst (Meets Draft w f ks a) (sym s) (own, subst (λ (z : Assignment). Meets Draft w (f ⊕ gain r) (ks ++ keys r) z (strip rs)) (anew a′ a r e) rest);
