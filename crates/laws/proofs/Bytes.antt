@@ -1,16 +1,17 @@
 -- Records and bytes: bytes cut into pieces and laid one behind the other again, both ways, and the records of a file as such pieces.
 -- Assumes nothing.
-use Prim.Native.Nat.{ℕ, zero, suc, _+_, _*_, _/_, _%_, _≤_, _<_}
-use mathlib.Core.Path.{_≡_, refl, sym, ap, ap₂, subst, _∙_}
+use Prim.Native.Nat.{ℕ, zero, suc, _+_, _*_, _/_, _%_, _<_}
+use mathlib.Core.Path.{_≡_, refl, sym, ap, ap₂, _∙_}
 use mathlib.Core.List.{List, [], _∷_, _++_}
 use mathlib.Core.Bool.{Bool, true, false, not, _||_}
 use native.Mathlib.Omega.{arith}
 use borrow.Author.Tests.{eqb-true, eqb-false, eq-eqb, ne-eqb, not-false}
 use lib.Dec.{eqb}
 use lib.ListN.{length, take, drop, replicate, length-append, length-take, length-drop, take-append-drop}
-use lib.Seq.{take-at, drop-at, length-take-le}
+use lib.Seq.{take-at, drop-at}
 use Rattle.rules.specs.Run.{chunks, recordsOf, badLength}
 use Rattle.operations.specs.Closing.{bytesOf}
+use Rattle.laws.specs.View.{Sized}
 
 -- pieces of these lengths, cut from the start on
 unfoldable pub cuts : List ℕ → List ℕ → List (List ℕ)
@@ -48,10 +49,6 @@ laid-length [] = refl
 laid-length (s ∷ ss) = length-append s (bytesOf ss) ∙ ap (λ (n : ℕ). length s + n) (laid-length ss)
 
 -- ---- records are pieces of 81 bytes
-unfoldable pub Sized : List (List ℕ) → Type 0
-Sized [] = Unit {0}
-Sized (r ∷ rs) = (length r ≡ 81) × Sized rs
-
 chunks-are : (n : ℕ) (b : List ℕ) → chunks n b ≡ cuts (replicate n 81) b
 unfolding chunks cuts
 chunks-are zero b = refl
@@ -76,6 +73,16 @@ chunks-length : (n : ℕ) (b : List ℕ) → length (chunks n b) ≡ n
 unfolding chunks
 chunks-length zero b = refl
 chunks-length (suc n) b = ap suc (chunks-length n (drop 81 b))
+
+pub sized-join : (xs ys : List (List ℕ)) → Sized xs → Sized ys → Sized (xs ++ ys)
+unfolding Sized
+sized-join [] ys h g = g
+sized-join (x ∷ xs) ys h g = (h .0, sized-join xs ys (h .1) g)
+
+pub sized-split : (xs ys : List (List ℕ)) → Sized (xs ++ ys) → Sized xs × Sized ys
+unfolding Sized
+sized-split [] ys h = (tt, h)
+sized-split (x ∷ xs) ys h = let v = sized-split xs ys (h .1) in ((h .0, v .0), v .1)
 
 -- ---- whole files
 pub record-count : (b : List ℕ) → length (recordsOf b) ≡ length b / 81

@@ -1,7 +1,7 @@
 -- A draft that meets the rules, with its end records put in, is a file that meets them, and without them again it is the draft.
 -- Assumes nothing.
 use Prim.Native.Nat.{ℕ, _+_, _^_, _≤_, _<_}
-use mathlib.Core.Path.{_≡_, refl, sym, ap, ap₂, subst, _∙_}
+use mathlib.Core.Path.{_≡_, refl, sym, ap, subst, _∙_}
 use mathlib.Core.List.{List, [], _∷_, _++_}
 use mathlib.Core.Bool.{Bool, true, false, _&&_, true≢false}
 use native.Mathlib.Nat.{add-zero}
@@ -11,7 +11,6 @@ use lib.Dec.{eqb, ltb}
 use Rattle.fields.proofs.Tests.{and-left, and-right}
 use Rattle.dates.specs.declared.Window.{Window}
 use Rattle.figures.specs.Figures.{limitWide}
-use Rattle.figures.specs.Groups.{gives}
 use Rattle.figures.specs.Totals.{_⊕_, oneRecord}
 use Rattle.figures.specs.declared.totals.Totals.{Totals}
 use Rattle.figures.proofs.Laws.{⊕-assoc, ⊕-comm}
@@ -31,9 +30,10 @@ use Rattle.laws.specs.Meets.{gains, turns, allKeys, Meets, Ends}
 use Rattle.laws.specs.Fits.{Fits, NoEnd}
 use Rattle.laws.specs.Stripped.{anEnd, strip}
 use Rattle.laws.proofs.Frame.{transfer, asked, fits-on, frame}
+use Rattle.laws.proofs.Types.{code-is, end-is}
 use Rattle.laws.proofs.EndRecords.{Small, its88, kind-88, holds-88, its89, kind-89, holds-89}
-use Rattle.laws.proofs.Places.{Stands, reopens, InDraft, in-draft}
-use Rattle.laws.proofs.EndsPut.{code-is, end-is, put-none, put-88, put-last, kept, taken-out, gain-88, keys-88, turn-88}
+use Rattle.laws.proofs.Places.{known, Stands, reopens, in-draft}
+use Rattle.laws.proofs.EndsPut.{put-none, put-88, put-last, kept, taken-out, gain-88, keys-88, turn-88}
 
 -- ---- an assignment's figures are at most its file's, and transactions are records
 pub record Below (a : Assignment) (f : Totals) : Type 0 where
@@ -54,11 +54,16 @@ below-on R88 r a f h = omega arith
 below-on R89 r a f h = omega arith
 below-on Other r a f h = omega arith
 
+pub below-behind : (a : Assignment) (f : Totals) (rs : List (List ℕ)) → Below a f → Below (turns a rs) (f ⊕ gains rs)
+unfolding turns gains
+below-behind a f [] h = omega (arith, h)
+below-behind a f (r ∷ rs) h = subst (Below (turns (turn r a) rs)) (⊕-assoc f (gain r) (gains rs)) (below-behind (turn r a) (f ⊕ gain r) rs (below-on (kindOf r) r a f h))
+
 -- so they fit into the fields of the end records
 small-88 : (a : Assignment) (f : Totals) → Below a f → f .records .0 + 1 < 10 ^ 8 → f .sum .0 ≤ limitWide .0 → Small (a .totals .totals)
 small-88 a f b r s = omega arith
 
-small-89 : (a : Assignment) (f : Totals) → Below a f → f .records .0 + 1 < 10 ^ 8 → f .sum .0 ≤ limitWide .0 → Small f
+pub small-89 : (a : Assignment) (f : Totals) → Below a f → f .records .0 + 1 < 10 ^ 8 → f .sum .0 ≤ limitWide .0 → Small f
 small-89 a f b r s = omega arith
 
 -- ---- an 88 before more records
@@ -83,6 +88,14 @@ table-20 w f f′ ks r a g l fit h = transfer f f′ ks ks r (record20 a r) h (a
 -- nor does it keep anything of it
 pub anew : (a a′ : Assignment) (r : List ℕ) → kindOf r ≡ R20 → turn r a ≡ turn r a′
 anew a a′ r k = ap (λ (x : Kind). turnFor x r a) k ∙ sym (ap (λ (x : Kind). turnFor x r a′) k)
+
+-- what fits depends on the file's sum and its number of assignments alone
+pub refits : (f f′ : Totals) (ks : List ℕ) (g : Totals) (l : List ℕ) → f .sum .0 ≡ f′ .sum .0 → f .assignments .0 ≡ f′ .assignments .0 → Fits f ks g l → Fits f′ ks g l
+refits f f′ ks g l s n h = record { sums = omega (arith, s, h .sums); rooms = omega (arith, n, h .rooms); news = h .news }
+
+-- one record more is nothing to it
+pub fits-counted : (f : Totals) (ks : List ℕ) (g : Totals) (l : List ℕ) → Fits f ks g l → Fits (f ⊕ oneRecord) ks g l
+fits-counted f ks g l h = refits f (f ⊕ oneRecord) ks g l (omega arith) (omega arith) h
 
 module _ (w : Window) where
   -- a draft under way, behind a state of the file that it is closed to
@@ -114,23 +127,32 @@ module _ (w : Window) where
       let v = in-draft a f (kindOf r) r s (h .0 .1 .0) in
       ((λ e. true≢false (sym (ap (λ (k : Kind). anEnd (numberOfKind k)) e) ∙ v .kept)), no-ends (f ⊕ gain r) (ks ++ keys r) (turn r a) rs (v .on) (h .1))
 
-  -- one record more in the file changes nothing
-  fits-counted : (f : Totals) (ks : List ℕ) (g : Totals) (l : List ℕ) → Fits f ks g l → Fits (f ⊕ oneRecord) ks g l
-  fits-counted f ks g l h = record { sums = omega (arith, h .sums); rooms = omega (arith, h .rooms); news = h .news }
+  -- behind it the draft stands where a draft can be
+  pub stands-behind : (f : Totals) (ks : List ℕ) (a : Assignment) (rs : List (List ℕ)) → Stands a f → Meets Draft w f ks a rs → Stands (turns a rs) (f ⊕ gains rs)
+  unfolding Meets AllHold turns gains
+  stands-behind f ks a [] s h = rw (add-zero (f .assignments .0)) s
+  stands-behind f ks a (r ∷ rs) s h =
+      subst (Stands (turns (turn r a) rs)) (⊕-assoc f (gain r) (gains rs))
+      (stands-behind (f ⊕ gain r) (ks ++ keys r) (turn r a) rs (in-draft a f (kindOf r) r s (h .0 .1 .0) .on) (h .1))
 
+  -- of the file it asks the sum, the number of assignments and the keys alone
+  pub recounted : (f f′ : Totals) (ks : List ℕ) (a : Assignment) (rs : List (List ℕ)) → f .sum .0 ≡ f′ .sum .0 → f .assignments .0 ≡ f′ .assignments .0 → Stands a f
+      → Fits f ks (gains rs) (allKeys rs) → Meets Draft w f ks a rs → Meets Draft w f′ ks a rs
+  recounted f f′ ks a rs s n p fit h = frame Draft w f f′ ks ks a rs (no-ends f ks a rs p h) (refits f f′ ks (gains rs) (allKeys rs) s n fit) h
+
+  -- one record more in the file changes nothing
   abbrev counted : State → State
   counted st = record { file = st .file ⊕ oneRecord; assignment = st .assignment }
 
   drafted-counted : (st : State) (ks : List ℕ) (rs : List (List ℕ)) → Drafted st ks rs → st .file .records .0 + gains rs .records .0 + gains rs .assignments .0 + 3 < 10 ^ 8
       → Drafted (counted st) ks rs
   drafted-counted st ks rs d few =
-      let fits = fits-counted (st .file) ks (gains rs) (allKeys rs) (d .fits) in
       record {
         place = rw (add-zero (st .file .assignments .0)) (d .place);
         below = omega (arith, d .below);
-        fits = fits;
+        fits = fits-counted (st .file) ks (gains rs) (allKeys rs) (d .fits);
         few = omega (arith, few);
-        meets = frame Draft w (st .file) (st .file ⊕ oneRecord) ks ks (st .assignment) rs (no-ends (st .file) ks (st .assignment) rs (d .place) (d .meets)) fits (d .meets);
+        meets = recounted (st .file) (st .file ⊕ oneRecord) ks (st .assignment) rs (omega arith) (omega arith) (d .place) (d .fits) (d .meets);
         ends = d .ends;
       }
 
@@ -185,7 +207,7 @@ module _ (w : Window) where
   closes-none st ks r rs e d c =
       let p = put-none st r rs e in
       let v = in-draft (st .assignment) (st .file) (kindOf r) r (d .place) (d .meets .0 .1 .0) in
-      let code = code-is r (kindOf r) refl (v .type) in
+      let code = code-is r (kindOf r) refl (known Draft (st .assignment) (kindOf r) (d .meets .0 .1 .0)) in
       let m = v .plain (ap (λ (n : ℕ). eqb n 20 && ltb 0 (st .file .assignments .0)) (sym code) ∙ e) in
       record {
         meets = subst (Meets File w (st .file) ks (st .assignment)) (sym p) ((d .meets .0 .0, (m, d .meets .0 .1 .1)), c .meets);
@@ -203,6 +225,7 @@ module _ (w : Window) where
       let e88 = kind-88 a in
       let k = opens-20 st r e in
       let v = in-draft a f (kindOf r) r (d .place) (d .meets .0 .1 .0) in
+      let code = code-is r (kindOf r) refl (known Draft a (kindOf r) (d .meets .0 .1 .0)) in
       let m = v .closes (ap (λ (x : Kind). reopens x (ltb 0 (f .assignments .0))) k ∙ and-right (opens r) (ltb 0 (f .assignments .0)) e) in
       let t : AllHold f ks r (record20 a r) = subst (λ (x : Kind). AllHold f ks r (tableFor x w a r)) k (d .meets .0 .1 .1) in
       let fit = fits-counted f ks (gains (r ∷ rs)) (allKeys (r ∷ rs)) (d .fits) in
@@ -213,7 +236,7 @@ module _ (w : Window) where
       record {
         meets = subst (Meets File w f ks a) (sym p) (meets-88 w f ks a (its88 a) e88 (r ∷ withEnds (after (behind88 st) r) rs) h88 (h, c .meets));
         ends = subst (λ (x : List (List ℕ)). Ends File (turns a x)) (sym p) (subst (Ends File) (sym (turns-88 w f ks a (its88 a) e88 (r ∷ withEnds (after (behind88 st) r) rs))) (c .ends));
-        back = ap strip p ∙ taken-out (its88 a) _ (end-is (its88 a) R88 e88 refl) ∙ kept r _ (ap anEnd (code-is r (kindOf r) refl (v .type)) ∙ v .kept) ∙ ap (λ (x : List (List ℕ)). r ∷ x) (c .back);
+        back = ap strip p ∙ taken-out (its88 a) _ (end-is (its88 a) R88 e88 refl) ∙ kept r _ (ap anEnd code ∙ v .kept) ∙ ap (λ (x : List (List ℕ)). r ∷ x) (c .back);
       }
 
   pub closes : (st : State) (ks : List ℕ) (rs : List (List ℕ)) → Drafted st ks rs → Closed st ks rs

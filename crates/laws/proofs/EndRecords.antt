@@ -18,7 +18,7 @@ use Rattle.fields.proofs.Tests.{and-left, and-right, and-both}
 use Rattle.fields.proofs.Every.{same-is, same-self}
 use Rattle.fields.proofs.Values.{number-yes, number-is, written-length}
 use Rattle.fields.proofs.Width.{digit-field}
-use Rattle.dates.specs.Dates.{date, ddmmyy, later}
+use Rattle.dates.specs.Dates.{date, ddmmyy}
 use Rattle.dates.specs.declared.Date.{Date}
 use Rattle.dates.specs.declared.Service.{Service}
 use Rattle.dates.specs.declared.Service.the-variants.{Autogiro, Remittance}
@@ -28,17 +28,17 @@ use Rattle.figures.specs.Totals.{_⊕_, oneRecord}
 use Rattle.figures.specs.declared.totals.Totals.{Totals}
 use Rattle.figures.specs.Groups.{gives}
 use Rattle.layout.specs.Rows.{AllHold}
-use Rattle.rules.specs.Codes.{recordCode, codeFor, kindFor, kindOf, numberOfKind}
-use Rattle.rules.proofs.Codes.{at-codes}
+use Rattle.rules.specs.Codes.{recordCode, codeFor, kindFor, kindOf}
 use Rattle.rules.specs.Order.{mayFollow}
 use Rattle.rules.specs.Layouts.{rows, tableFor}
 use Rattle.rules.specs.Growth.{turnFor}
 use Rattle.rules.specs.declared.Assignment.{Assignment}
 use Rattle.rules.specs.declared.Kind.{Kind}
-use Rattle.rules.specs.declared.Kind.the-variants.{R88, R89, Other}
+use Rattle.rules.specs.declared.Kind.the-variants.{R88, R89}
 use Rattle.rules.specs.declared.Mode.the-variants.{File}
 use Rattle.operations.specs.Ends.{endRecord, end88, end89}
 use Rattle.operations.specs.Closing.{bytesOf}
+use Rattle.laws.proofs.Types.{code-is, no-other}
 use Rattle.laws.proofs.Bytes.{cuts, widths, total, laid-again, cut-again, laid-length}
 
 -- ---- one field: what it reads as, and what it is
@@ -140,16 +140,20 @@ module _ (service type : ℕ) (t : Totals) (last : Date) where
 abbrev Reads : List ℕ → ℕ → Type 0
 Reads s n = (every isDigit s ≡ true) × (eqb (value s) n ≡ true)
 
+-- the four figures that 88 and 89 have in common
+record Figures (t : Totals) (r : List ℕ) : Type 0 where
+  transactions : Reads (part 9 16 r) (t .transactions .0)
+  records : Reads (part 17 24 r) (t .records .0 + 1)
+  sum : Reads (part 25 41 r) (t .sum .0)
+  first : Reads (part 42 47 r) (ddmmyy (t .first))
+
 -- what the rows of an end record of this service and type ask of its bytes
 record EndRows (service type : ℕ) (t : Totals) (last : Date) (r : List ℕ) : Type 0 where
   sender : same (part 1 2 r) (text "NY") ≡ true
   service-is : codeOf (part 3 4 r) ≡ service
   type-is : same (part 5 6 r) (text "00") ≡ true
   record-is : codeOf (part 7 8 r) ≡ type
-  transactions : Reads (part 9 16 r) (t .transactions .0)
-  records : Reads (part 17 24 r) (t .records .0 + 1)
-  sum : Reads (part 25 41 r) (t .sum .0)
-  first : Reads (part 42 47 r) (ddmmyy (t .first))
+  figures : Figures t r
   last-is : Reads (part 48 53 r) (ddmmyy last)
   rest : every isZero (part 54 80 r) ≡ true
   feed : same (part 81 81 r) (10 ∷ []) ≡ true
@@ -179,10 +183,12 @@ module _ (service type : ℕ) (t : Totals) (last : Date) (p : service < 100) (q 
         service-is = code-reads service (part 3 4 r) (ap (λ (x : List (List ℕ)). getD x 1 []) e) p;
         type-is = ap (λ (x : List (List ℕ)). same (getD x 2 []) (text "00")) e ∙ same-self (text "00");
         record-is = end-code;
-        transactions = reads 8 (t .transactions .0) (part 9 16 r) (ap (λ (x : List (List ℕ)). getD x 4 []) e) (s .transactions);
-        records = reads 8 (t .records .0 + 1) (part 17 24 r) (ap (λ (x : List (List ℕ)). getD x 5 []) e) (s .records);
-        sum = reads 17 (t .sum .0) (part 25 41 r) (ap (λ (x : List (List ℕ)). getD x 6 []) e) (s .sum);
-        first = reads 6 (ddmmyy (t .first)) (part 42 47 r) (ap (λ (x : List (List ℕ)). getD x 7 []) e) (ddmmyy-below (t .first));
+        figures = record {
+          transactions = reads 8 (t .transactions .0) (part 9 16 r) (ap (λ (x : List (List ℕ)). getD x 4 []) e) (s .transactions);
+          records = reads 8 (t .records .0 + 1) (part 17 24 r) (ap (λ (x : List (List ℕ)). getD x 5 []) e) (s .records);
+          sum = reads 17 (t .sum .0) (part 25 41 r) (ap (λ (x : List (List ℕ)). getD x 6 []) e) (s .sum);
+          first = reads 6 (ddmmyy (t .first)) (part 42 47 r) (ap (λ (x : List (List ℕ)). getD x 7 []) e) (ddmmyy-below (t .first));
+        };
         last-is = reads 6 (ddmmyy last) (part 48 53 r) (ap (λ (x : List (List ℕ)). getD x 8 []) e) (ddmmyy-below last);
         rest = ap (λ (x : List (List ℕ)). every isZero (getD x 9 [])) e ∙ zeros-read 27;
         feed = ap (λ (x : List (List ℕ)). same (getD x 10 []) (10 ∷ [])) e ∙ same-self (10 ∷ []);
@@ -199,10 +205,10 @@ module _ (service type : ℕ) (t : Totals) (last : Date) (p : service < 100) (q 
       let e3 = code-written type (part 7 8 r) (part-length 7 8 r (omega arith)) q (h .record-is) in
       let figure : (w n from to : ℕ) → to ≤ 81 → to - (from - 1) ≡ w → Reads (part from to r) n → part from to r ≡ written w n
       = λ w n from to i j x. is-written w n (part from to r) (part-length from to r (omega arith) ∙ j) (x .0) (x .1) in
-      let e4 = figure 8 (t .transactions .0) 9 16 (omega arith) refl (h .transactions) in
-      let e5 = figure 8 (t .records .0 + 1) 17 24 (omega arith) refl (h .records) in
-      let e6 = figure 17 (t .sum .0) 25 41 (omega arith) refl (h .sum) in
-      let e7 = figure 6 (ddmmyy (t .first)) 42 47 (omega arith) refl (h .first) in
+      let e4 = figure 8 (t .transactions .0) 9 16 (omega arith) refl (h .figures .transactions) in
+      let e5 = figure 8 (t .records .0 + 1) 17 24 (omega arith) refl (h .figures .records) in
+      let e6 = figure 17 (t .sum .0) 25 41 (omega arith) refl (h .figures .sum) in
+      let e7 = figure 6 (ddmmyy (t .first)) 42 47 (omega arith) refl (h .figures .first) in
       let e8 = figure 6 (ddmmyy last) 48 53 (omega arith) refl (h .last-is) in
       let e9 = zeros-written (part 54 80 r) (h .rest) ∙ ap (λ (n : ℕ). written n 0) (part-length 54 80 r (omega arith)) in
       let e10 = same-is (part 81 81 r) (10 ∷ []) (h .feed) in
@@ -242,59 +248,60 @@ zero-code s h = ap codeOf (same-is s (text "00") h)
 
 -- one row's proof, then those of the rows behind it
 infixr 20 _then_
-abbrev pub _then_ : {A B : Type 0} → A → B → A × B
+abbrev _then_ : {A B : Type 0} → A → B → A × B
 a then b = (a, b)
 
--- a code that is none of the nine is no type; so a type tells its code
-pub kind-number : (n : ℕ) → (kindFor n ≡ Other → ⊥) → numberOfKind (kindFor n) ≡ n
-unfolding kindFor
-kind-number n h = go n h
-  where
-    P : ℕ → Type 0
-    P n = (kindFor n ≡ Other → ⊥) → numberOfKind (kindFor n) ≡ n
+-- the rows of the four figures, and those behind them
+abbrev TwoRows : List ℕ → ℕ → Type 0 → Type 0
+TwoRows s n X = (every isDigit s ≡ true) × ((eqb (value s) n ≡ true) × X)
 
-    go : (n : ℕ) → P n
-    go n =
-        at-codes P n (λ x. refl) (λ x. refl) (λ x. refl) (λ x. refl) (λ x. refl) (λ x. refl) (λ x. refl) (λ x. refl) (λ x. refl)
-        (λ a b c d e f g h i x. absurd (x (simp (a, b, c, d, e, f, g, h, i))))
+abbrev FigureRows : Totals → List ℕ → Type 0 → Type 0
+FigureRows t r X =
+    TwoRows (part 9 16 r) (t .transactions .0) (TwoRows (part 17 24 r) (t .records .0 + 1) (TwoRows (part 25 41 r) (t .sum .0) (TwoRows (part 42 47 r) (ddmmyy (t .first)) X)))
 
-pub code-of : (k : Kind) (n : ℕ) → (k ≡ Other → ⊥) → kindFor n ≡ k → n ≡ numberOfKind k
-code-of k n o e = sym (kind-number n (λ x. o (sym e ∙ x))) ∙ ap numberOfKind e
+module _ (t : Totals) (r : List ℕ) {X : Type 0} where
+  figure-rows : Figures t r → X → FigureRows t r X
+  figure-rows h x =
+      h .transactions .0 then h .transactions .1 then h .records .0 then h .records .1 then h .sum .0 then h .sum .1 then h .first .0 then h .first .1 then x
 
-differs : (n : ℕ) (k : Kind) → numberOfKind k ≡ suc n → k ≡ Other → ⊥
-differs n k e o = let z : suc n ≡ 0 = sym e ∙ ap numberOfKind o in omega arith
+  of-figure-rows : FigureRows t r X → Figures t r × X
+  of-figure-rows h =
+      let two = h .1 .1 in
+      let three = two .1 .1 in
+      let four = three .1 .1 in
+      (record { transactions = (h .0, h .1 .0); records = (two .0, two .1 .0); sum = (three .0, three .1 .0); first = (four .0, four .1 .0) }, four .1 .1)
 
 module _ (f : Totals) (ks r : List ℕ) (w : Window) (a : Assignment) where
+  -- the rows behind the line feed, of a record whose type is known
+  abbrev RowsOf : Kind → Type 0
+  RowsOf k = (mayFollow File a k ≡ true) × AllHold f ks r (tableFor k w a r)
+
   rows-88 : EndRows (codeFor (a .service)) 88 (a .totals .totals) (a .totals .last) r → mayFollow File a R88 ≡ true → gives (a .group) (a .due) ≡ true
       → AllHold f ks r (rows File w a r)
   unfolding AllHold kindFor
   rows-88 h m g =
-      let k : kindOf r ≡ R88 = ap kindFor (h .record-is) in
-      h .feed then
-      subst (λ (x : Kind). (mayFollow File a x ≡ true) × AllHold f ks r (tableFor x w a r)) (sym k)
-      (m then g then h .sender then eq-eqb (codeOf (part 3 4 r)) (codeFor (a .service)) (h .service-is) then h .type-is then
-      h .transactions .0 then h .transactions .1 then h .records .0 then h .records .1 then h .sum .0 then h .sum .1 then
-      h .first .0 then h .first .1 then h .last-is .0 then h .last-is .1 then h .rest then tt)
+      let service = eq-eqb (codeOf (part 3 4 r)) (codeFor (a .service)) (h .service-is) in
+      let figures = figure-rows (a .totals .totals) r (h .figures) (h .last-is .0 then h .last-is .1 then h .rest then tt) in
+      let all : RowsOf R88 = m then g then h .sender then service then h .type-is then figures in
+      h .feed then subst RowsOf (sym (ap kindFor (h .record-is))) all
 
   of-rows-88 : kindOf r ≡ R88 → AllHold f ks r (rows File w a r)
       → (mayFollow File a R88 ≡ true) × (gives (a .group) (a .due) ≡ true) × EndRows (codeFor (a .service)) 88 (a .totals .totals) (a .totals .last) r
   unfolding AllHold
   of-rows-88 k h =
-      let t = subst (λ (x : Kind). (mayFollow File a x ≡ true) × AllHold f ks r (tableFor x w a r)) k (h .1) in
-      let figures = t .1 .1 .1 .1 .1 in (
-        t .0,
-        t .1 .0,
+      let all = subst RowsOf k (h .1) in
+      let own = all .1 .1 in
+      let v = of-figure-rows (a .totals .totals) r (own .1 .1 .1) in (
+        all .0,
+        all .1 .0,
         record {
-          sender = t .1 .1 .0;
-          service-is = eqb-true (codeOf (part 3 4 r)) (codeFor (a .service)) (t .1 .1 .1 .0);
-          type-is = t .1 .1 .1 .1 .0;
-          record-is = code-of R88 (codeOf (part 7 8 r)) (differs 87 R88 refl) k;
-          transactions = (figures .0, figures .1 .0);
-          records = (figures .1 .1 .0, figures .1 .1 .1 .0);
-          sum = (figures .1 .1 .1 .1 .0, figures .1 .1 .1 .1 .1 .0);
-          first = (figures .1 .1 .1 .1 .1 .1 .0, figures .1 .1 .1 .1 .1 .1 .1 .0);
-          last-is = (figures .1 .1 .1 .1 .1 .1 .1 .1 .0, figures .1 .1 .1 .1 .1 .1 .1 .1 .1 .0);
-          rest = figures .1 .1 .1 .1 .1 .1 .1 .1 .1 .1 .0;
+          sender = own .0;
+          service-is = eqb-true (codeOf (part 3 4 r)) (codeFor (a .service)) (own .1 .0);
+          type-is = own .1 .1 .0;
+          record-is = code-is r R88 k (no-other R88 refl);
+          figures = v .0;
+          last-is = (v .1 .0, v .1 .1 .0);
+          rest = v .1 .1 .1 .0;
           feed = h .0;
         },
       )
@@ -302,31 +309,24 @@ module _ (f : Totals) (ks r : List ℕ) (w : Window) (a : Assignment) where
   rows-89 : length r ≡ 81 → EndRows 0 89 f (date 0) r → mayFollow File a R89 ≡ true → AllHold f ks r (rows File w a r)
   unfolding AllHold kindFor
   rows-89 l h m =
-      let k : kindOf r ≡ R89 = ap kindFor (h .record-is) in
-      let long : 81 ≤ length r = omega arith in
-      let zeros = zeros-split r ∙ and-both (every isZero (part 48 53 r)) (every isZero (part 54 80 r)) (reads-no-date (part 48 53 r) (part-length 48 53 r (omega arith)) (h .last-is)) (h .rest) in
-      h .feed then
-      subst (λ (x : Kind). (mayFollow File a x ≡ true) × AllHold f ks r (tableFor x w a r)) (sym k)
-      (m then h .sender then code-zero (part 3 4 r) (h .service-is) (part-length 3 4 r (omega arith)) then h .type-is then
-      h .transactions .0 then h .transactions .1 then h .records .0 then h .records .1 then h .sum .0 then h .sum .1 then
-      h .first .0 then h .first .1 then zeros then tt)
+      let no-date = reads-no-date (part 48 53 r) (part-length 48 53 r (omega arith)) (h .last-is) in
+      let zeros = zeros-split r ∙ and-both (every isZero (part 48 53 r)) (every isZero (part 54 80 r)) no-date (h .rest) in
+      let service = code-zero (part 3 4 r) (h .service-is) (part-length 3 4 r (omega arith)) in
+      let all : RowsOf R89 = m then h .sender then service then h .type-is then figure-rows f r (h .figures) (zeros then tt) in
+      h .feed then subst RowsOf (sym (ap kindFor (h .record-is))) all
 
   of-rows-89 : length r ≡ 81 → kindOf r ≡ R89 → AllHold f ks r (rows File w a r) → EndRows 0 89 f (date 0) r
   unfolding AllHold
   of-rows-89 l k h =
-      let t = subst (λ (x : Kind). (mayFollow File a x ≡ true) × AllHold f ks r (tableFor x w a r)) k (h .1) in
-      let long : 81 ≤ length r = omega arith in
-      let figures = t .1 .1 .1 .1 in
-      let zeros = sym (zeros-split r) ∙ figures .1 .1 .1 .1 .1 .1 .1 .1 .0 in
+      let own = subst RowsOf k (h .1) .1 in
+      let v = of-figure-rows f r (own .1 .1 .1) in
+      let zeros = sym (zeros-split r) ∙ v .1 .0 in
       record {
-        sender = t .1 .0;
-        service-is = zero-code (part 3 4 r) (t .1 .1 .0);
-        type-is = t .1 .1 .1 .0;
-        record-is = code-of R89 (codeOf (part 7 8 r)) (differs 88 R89 refl) k;
-        transactions = (figures .0, figures .1 .0);
-        records = (figures .1 .1 .0, figures .1 .1 .1 .0);
-        sum = (figures .1 .1 .1 .1 .0, figures .1 .1 .1 .1 .1 .0);
-        first = (figures .1 .1 .1 .1 .1 .1 .0, figures .1 .1 .1 .1 .1 .1 .1 .0);
+        sender = own .0;
+        service-is = zero-code (part 3 4 r) (own .1 .0);
+        type-is = own .1 .1 .0;
+        record-is = code-is r R89 k (no-other R89 refl);
+        figures = v .0;
         last-is = no-date-reads (part 48 53 r) (part-length 48 53 r (omega arith)) (and-left (every isZero (part 48 53 r)) (every isZero (part 54 80 r)) zeros);
         rest = and-right (every isZero (part 48 53 r)) (every isZero (part 54 80 r)) zeros;
         feed = h .0;

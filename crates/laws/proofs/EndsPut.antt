@@ -1,12 +1,11 @@
 -- End records put into a list of records and taken out of it: one record at a time, the sizes, and what all of them add.
 -- Assumes nothing.
-use Prim.Native.Nat.{ℕ, zero, suc, _+_, _≤_, _<_}
+use Prim.Native.Nat.{ℕ, suc, _+_, _<_}
 use mathlib.Core.Path.{_≡_, refl, sym, ap, ap₂, subst, _∙_}
 use mathlib.Core.List.{List, [], _∷_, _++_, append-nil}
-use mathlib.Core.Bool.{Bool, true, false, _&&_, false≢true}
-use native.Mathlib.Nat.{add-zero, zero-add}
+use mathlib.Core.Bool.{Bool, true, false}
 use native.Mathlib.Omega.{arith}
-use borrow.Author.Tests.{eqb-true, eqb-false, lt-ltb, le-ltb, ltb-true, ltb-false}
+use borrow.Author.Tests.{eqb-true, eqb-false, lt-ltb}
 use lib.Dec.{eqb, ltb}
 use lib.ListN.{length}
 use Rattle.choice.specs.Choice.{if_then_else_}
@@ -14,8 +13,8 @@ use Rattle.dates.specs.Dates.{date, earlier}
 use Rattle.figures.specs.Figures.{amount, count}
 use Rattle.figures.specs.Totals.{none, _⊕_, oneRecord}
 use Rattle.figures.specs.declared.totals.Totals.{Totals}
-use Rattle.figures.proofs.Laws.{⊕-assoc, ⊕-comm, none-⊕, ⊕-none}
-use Rattle.rules.specs.Codes.{recordCode, kindFor, kindOf, numberOfKind}
+use Rattle.figures.proofs.Laws.{⊕-assoc, ⊕-comm, none-⊕}
+use Rattle.rules.specs.Codes.{recordCode, kindOf}
 use Rattle.rules.proofs.Codes.{twenty, no-key}
 use Rattle.rules.specs.Growth.{gainFor, gain, turnFor, turn, keysFor, keys, after}
 use Rattle.rules.specs.declared.Assignment.{Assignment}
@@ -24,16 +23,9 @@ use Rattle.rules.specs.declared.Kind.the-variants.{R10, R20, R30, R31, R40, R49
 use Rattle.rules.specs.declared.State.{State}
 use Rattle.operations.specs.Closing.{opens, openings, behind88, endsBefore, withEnds}
 use Rattle.laws.specs.Meets.{gains}
+use Rattle.laws.specs.View.{Sized}
 use Rattle.laws.specs.Stripped.{anEnd, strip}
-use Rattle.laws.proofs.Bytes.{Sized}
-use Rattle.laws.proofs.EndRecords.{kind-number, its88, sized-88, kind-88, its89, sized-89, kind-89}
-
--- ---- a record's code, by its type
-pub code-is : (r : List ℕ) (k : Kind) → kindOf r ≡ k → (k ≡ Other → ⊥) → recordCode r ≡ numberOfKind k
-code-is r k e o = sym (kind-number (recordCode r) (λ x. o (sym e ∙ x))) ∙ ap numberOfKind e
-
-pub end-is : (r : List ℕ) (k : Kind) → kindOf r ≡ k → anEnd (numberOfKind k) ≡ true → anEnd (recordCode r) ≡ true
-end-is r k e h = ap anEnd (code-is r k e (λ x. false≢true (sym (ap (λ (y : Kind). anEnd (numberOfKind y)) x) ∙ h))) ∙ h
+use Rattle.laws.proofs.EndRecords.{its88, sized-88, kind-88, its89, sized-89, kind-89}
 
 -- ---- one record at a time
 module _ (st : State) (r : List ℕ) (rs : List (List ℕ)) where
@@ -69,7 +61,7 @@ module _ (r : List ℕ) (k : kindOf r ≡ R88) where
   pub turn-88 : (a : Assignment) → turn r a ≡ turnFor R88 [] a
   turn-88 a = ap (λ (x : Kind). turnFor x r a) k
 
-gain-89 : (r : List ℕ) → kindOf r ≡ R89 → gain r ≡ oneRecord
+pub gain-89 : (r : List ℕ) → kindOf r ≡ R89 → gain r ≡ oneRecord
 gain-89 r k = ap (λ (x : Kind). gainFor x r) k
 
 -- ---- sizes

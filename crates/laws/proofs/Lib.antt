@@ -3,8 +3,12 @@ pub mod First
 pub mod Frame
 pub mod Figures
 pub mod Demand2
+pub mod Types
 pub mod Bytes
 pub mod EndRecords
 pub mod Places
 pub mod EndsPut
 pub mod Closes
+pub mod Strips
+pub mod Closing
+pub mod View

@@ -1,13 +1,13 @@
--- Where a draft can be, and what may follow there in the draft and in the file that it is closed to: two computed tests over every place.
+-- Where a draft can be, and what may follow there in the draft and in the file that it is closed to, as tests computed over every place.
 -- Assumes nothing.
-use Prim.Native.Nat.{ℕ, zero, suc, _+_, _<_}
-use mathlib.Core.Path.{_≡_, refl, sym, ap, _∙_}
+use Prim.Native.Nat.{ℕ, _+_}
+use mathlib.Core.Path.{_≡_, refl, sym, ap, subst, _∙_}
 use mathlib.Core.Logic.{_⊎_, inl, inr}
 use mathlib.Core.List.{List, [], _∷_}
-use mathlib.Core.Bool.{Bool, true, false, not, _&&_, _||_, false≢true}
+use mathlib.Core.Bool.{Bool, true, false, not, _&&_, _||_, false≢true, true≢false}
 use native.Mathlib.Nat.{add-zero}
 use native.Mathlib.Omega.{arith}
-use borrow.Author.Tests.{lt-ltb, not-true, eqb-false}
+use borrow.Author.Tests.{lt-ltb, not-true}
 use lib.Dec.{eqb, ltb, lit<}
 use Rattle.choice.specs.Choice.{if_then_else_}
 use Rattle.fields.specs.Bytes.{every}
@@ -20,7 +20,7 @@ use Rattle.figures.specs.declared.totals.Totals.{Totals}
 use Rattle.layout.specs.Rows.{member}
 use Rattle.rules.specs.Codes.{numberOfKind, kindFor}
 use Rattle.rules.proofs.Codes.{at-code}
-use Rattle.rules.specs.Order.{next, behind31, behind, mayFollow, isEnd}
+use Rattle.rules.specs.Order.{behind, mayFollow, isEnd}
 use Rattle.rules.specs.Growth.{gainFor, turnFor}
 use Rattle.rules.specs.declared.Assignment.{Assignment}
 use Rattle.rules.specs.declared.Kind.{Kind}
@@ -28,27 +28,9 @@ use Rattle.rules.specs.declared.Kind.the-variants.{R10, R20, R30, R31, R40, R49
 use Rattle.rules.specs.declared.Mode.{Mode}
 use Rattle.rules.specs.declared.Mode.the-variants.{File, Draft}
 use Rattle.laws.specs.Stripped.{anEnd}
+use Rattle.laws.proofs.Types.{eachKind, of-kind, type-by}
 
 -- ---- what holds of each record type, service, transaction type and truth value holds of all
-abbrev codes : List ℕ
-codes = 10 ∷ 20 ∷ 30 ∷ 31 ∷ 40 ∷ 49 ∷ 50 ∷ 88 ∷ 89 ∷ 0 ∷ []
-
-abbrev eachKind : (Kind → Bool) → Bool
-eachKind p = every (λ n. p (kindFor n)) codes
-
-of-kind : (p : Kind → Bool) → eachKind p ≡ true → (k : Kind) → p k ≡ true
-unfolding kindFor
-of-kind p h R10 = every-at (λ n. p (kindFor n)) codes 0 h (lit< tt)
-of-kind p h R20 = every-at (λ n. p (kindFor n)) codes 1 h (lit< tt)
-of-kind p h R30 = every-at (λ n. p (kindFor n)) codes 2 h (lit< tt)
-of-kind p h R31 = every-at (λ n. p (kindFor n)) codes 3 h (lit< tt)
-of-kind p h R40 = every-at (λ n. p (kindFor n)) codes 4 h (lit< tt)
-of-kind p h R49 = every-at (λ n. p (kindFor n)) codes 5 h (lit< tt)
-of-kind p h R50 = every-at (λ n. p (kindFor n)) codes 6 h (lit< tt)
-of-kind p h R88 = every-at (λ n. p (kindFor n)) codes 7 h (lit< tt)
-of-kind p h R89 = every-at (λ n. p (kindFor n)) codes 8 h (lit< tt)
-of-kind p h Other = every-at (λ n. p (kindFor n)) codes 9 h (lit< tt)
-
 abbrev eachBool : (Bool → Bool) → Bool
 eachBool p = p true && p false
 
@@ -105,6 +87,27 @@ always T h b a k =
     at-code P 3 (a .code) (every-at (at-place T b l k s) types 2 h4 (lit< tt)) λ r.
     (λ i. T b l k (λ m j. member (numberOfKind j) (other-type m l s (a .code) p q r i))) ∙ every-at (at-place T b l k s) types 3 h4 (lit< tt)
 
+abbrev implies : Bool → Bool → Bool
+implies a b = not a || b
+
+mp : (a b : Bool) → implies a b ≡ true → a ≡ true → b ≡ true
+mp a b h p = rw p at h
+
+-- a record of no type stands nowhere
+known-everywhere : everywhere (λ b l k may. not (may File Other) && not (may Draft Other)) ≡ true
+unfolding every kindFor member
+known-everywhere = refl
+
+pub known : (m : Mode) (a : Assignment) (k : Kind) → mayFollow m a k ≡ true → k ≡ Other → ⊥
+known m a k h e = true≢false (sym (subst (λ (x : Kind). mayFollow m a x ≡ true) e h) ∙ go m)
+  where
+    v : not (mayFollow File a Other) && not (mayFollow Draft a Other) ≡ true
+    v = always (λ b l k may. not (may File Other) && not (may Draft Other)) known-everywhere true a Other
+
+    go : (m : Mode) → mayFollow m a Other ≡ false
+    go File = not-true (mayFollow File a Other) (and-left (not (mayFollow File a Other)) (not (mayFollow Draft a Other)) v)
+    go Draft = not-true (mayFollow Draft a Other) (and-right (not (mayFollow File a Other)) (not (mayFollow Draft a Other)) v)
+
 -- ---- the places of a draft
 -- before any assignment or within one, never behind an 88 or 89
 abbrev stands : Kind → Bool → Bool
@@ -117,22 +120,15 @@ Stands a f = stands (a .last) (ltb 0 (f .assignments .0)) ≡ true
 abbrev pub reopens : Kind → Bool → Bool
 reopens k b = eqb (numberOfKind k) 20 && b
 
-abbrev implies : Bool → Bool → Bool
-implies a b = not a || b
-
-mp : (a b : Bool) → implies a b ≡ true → a ≡ true → b ≡ true
-mp a b h p = rw p at h
-
 -- what may follow in a draft keeps to those places, and may follow in the file, behind an 88 where it opens an assignment anew
 abbrev draft-test : Test
 draft-test b l k may =
     implies (stands l b && may Draft k)
-    (not (eqb (numberOfKind k) 0) && (not (anEnd (numberOfKind k)) && (stands k (eqb (numberOfKind k) 20 || b) && (if reopens k b then may File R88 else may File k))))
+    (not (anEnd (numberOfKind k)) && (stands k (eqb (numberOfKind k) 20 || b) && (if reopens k b then may File R88 else may File k)))
 
 -- what may follow in the file is an 88 where a 20 may follow in the draft, or follows in the draft and opens no assignment anew
 abbrev file-says : Bool → Kind → (Mode → Kind → Bool) → Bool
-file-says b k may =
-    not (eqb (numberOfKind k) 0) && (if anEnd (numberOfKind k) then eqb (numberOfKind k) 88 && (b && may Draft R20) else may Draft k && not (reopens k b))
+file-says b k may = if anEnd (numberOfKind k) then eqb (numberOfKind k) 88 && (b && may Draft R20) else may Draft k && not (reopens k b)
 
 abbrev file-test : Test
 file-test b l k may = implies (stands l b && may File k) (file-says b k may)
@@ -154,7 +150,7 @@ end-everywhere = refl
 
 -- ---- one record more
 -- the place behind it
-moved : (k : Kind) (r : List ℕ) (a : Assignment) (n : ℕ) → not (eqb (numberOfKind k) 0) ≡ true → stands k (eqb (numberOfKind k) 20 || ltb 0 n) ≡ true
+moved : (k : Kind) (r : List ℕ) (a : Assignment) (n : ℕ) → (k ≡ Other → ⊥) → stands k (eqb (numberOfKind k) 20 || ltb 0 n) ≡ true
     → stands (turnFor k r a .last) (ltb 0 (n + gainFor k r .assignments .0)) ≡ true
 moved R10 r a n o h = rw add-zero h
 moved R20 r a n o h = lt-ltb 0 (n + 1) (omega arith)
@@ -165,15 +161,11 @@ moved R49 r a n o h = rw add-zero h
 moved R50 r a n o h = rw add-zero h
 moved R88 r a n o h = h
 moved R89 r a n o h = h
-moved Other r a n o h = absurd (false≢true o)
-
-known : (k : Kind) → not (eqb (numberOfKind k) 0) ≡ true → k ≡ Other → ⊥
-known k h e = false≢true (sym (ap (λ (x : Kind). not (eqb (numberOfKind x) 0)) e) ∙ h)
+moved Other r a n o h = absurd (o refl)
 
 module _ (a : Assignment) (f : Totals) (k : Kind) (r : List ℕ) (s : Stands a f) where
   -- a record that may stand in the draft
   pub record InDraft : Type 0 where
-    pub type : k ≡ Other → ⊥
     pub kept : anEnd (numberOfKind k) ≡ false
     pub on : Stands (turnFor k r a) (f ⊕ gainFor k r)
     pub plain : reopens k (ltb 0 (f .assignments .0)) ≡ false → mayFollow File a k ≡ true
@@ -185,14 +177,11 @@ module _ (a : Assignment) (f : Totals) (k : Kind) (r : List ℕ) (s : Stands a f
       let b = ltb 0 (f .assignments .0) in
       let file = if reopens k b then mayFollow File a R88 else mayFollow File a k in
       let v = mp _ _ (always draft-test draft-everywhere b a k) (and-both (stands (a .last) b) (mayFollow Draft a k) s m) in
-      let o = and-left (not (eqb n 0)) (not (anEnd n) && (stands k (eqb n 20 || b) && file)) v in
-      let v1 = and-right (not (eqb n 0)) (not (anEnd n) && (stands k (eqb n 20 || b) && file)) v in
-      let v2 = and-right (not (anEnd n)) (stands k (eqb n 20 || b) && file) v1 in
-      let c : file ≡ true = and-right (stands k (eqb n 20 || b)) file v2 in
+      let v1 = and-right (not (anEnd n)) (stands k (eqb n 20 || b) && file) v in
+      let c : file ≡ true = and-right (stands k (eqb n 20 || b)) file v1 in
       record {
-        type = known k o;
-        kept = not-true (anEnd n) (and-left (not (anEnd n)) (stands k (eqb n 20 || b) && file) v1);
-        on = moved k r a (f .assignments .0) o (and-left (stands k (eqb n 20 || b)) file v2);
+        kept = not-true (anEnd n) (and-left (not (anEnd n)) (stands k (eqb n 20 || b) && file) v);
+        on = moved k r a (f .assignments .0) (known Draft a k m) (and-left (stands k (eqb n 20 || b)) file v1);
         plain = λ e. rw e at c;
         closes = λ e. rw e at c;
       }
@@ -206,7 +195,6 @@ module _ (a : Assignment) (f : Totals) (k : Kind) (s : Stands a f) where
 
   -- a record that may stand in the file, and is no end
   pub record InFile : Type 0 where
-    pub type : k ≡ Other → ⊥
     pub draft : mayFollow Draft a k ≡ true
     pub plain : reopens k (ltb 0 (f .assignments .0)) ≡ false
 
@@ -216,10 +204,9 @@ module _ (a : Assignment) (f : Totals) (k : Kind) (s : Stands a f) where
       let b = ltb 0 (f .assignments .0) in
       let one = eqb n 88 && (b && mayFollow Draft a R20) in
       let two = mayFollow Draft a k && not (reopens k b) in
-      let c : (if anEnd n then one else two) ≡ true = and-right (not (eqb n 0)) (if anEnd n then one else two) (says m) in
+      let c : (if anEnd n then one else two) ≡ true = says m in
       let d : two ≡ true = rw e at c in
       record {
-        type = known k (and-left (not (eqb n 0)) (if anEnd n then one else two) (says m));
         draft = and-left (mayFollow Draft a k) (not (reopens k b)) d;
         plain = not-true (reopens k b) (and-right (mayFollow Draft a k) (not (reopens k b)) d);
       }
@@ -241,21 +228,43 @@ module _ (a : Assignment) (f : Totals) (s : Stands a f) where
 
 -- behind an 88 comes a 20 or an 89, behind an 89 nothing
 pub behind-88 : (a : Assignment) (k : Kind) → a .last ≡ R88 → mayFollow File a k ≡ true → (k ≡ R20) ⊎ (k ≡ R89)
-unfolding mayFollow member
-behind-88 a k e m = go k (rw e at m)
+unfolding mayFollow member kindFor
+behind-88 a k e m = go (eqb (numberOfKind k) 20) (eqb (numberOfKind k) 89) refl refl (rw e at m)
   where
-    go : (k : Kind) → member (numberOfKind k) (20 ∷ 89 ∷ []) ≡ true → (k ≡ R20) ⊎ (k ≡ R89)
-    go R10 h = absurd (false≢true h)
-    go R20 h = inl refl
-    go R30 h = absurd (false≢true h)
-    go R31 h = absurd (false≢true h)
-    go R40 h = absurd (false≢true h)
-    go R49 h = absurd (false≢true h)
-    go R50 h = absurd (false≢true h)
-    go R88 h = absurd (false≢true h)
-    go R89 h = inr refl
-    go Other h = absurd (false≢true h)
+    go : (x y : Bool) → eqb (numberOfKind k) 20 ≡ x → eqb (numberOfKind k) 89 ≡ y → x || (y || false) ≡ true → (k ≡ R20) ⊎ (k ≡ R89)
+    go true y p q h = inl (type-by k 20 p)
+    go false true p q h = inr (type-by k 89 q)
+    go false false p q h = absurd (false≢true h)
 
 pub behind-89 : (a : Assignment) (k : Kind) → a .last ≡ R89 → mayFollow File a k ≡ true → ⊥
 unfolding mayFollow member
 behind-89 a k e m = false≢true (rw e at m)
+
+pub may-89 : (a : Assignment) → a .last ≡ R88 → mayFollow File a R89 ≡ true
+unfolding mayFollow member
+may-89 a e = ap (λ (l : Kind). member 89 (behind File l (a .service) (a .code))) e
+
+-- an 89 stands behind an 88 alone
+before-test : Test
+before-test b l k may = implies (may File R89) (eqb (numberOfKind l) 88)
+
+before-everywhere : everywhere before-test ≡ true
+unfolding every kindFor member before-test
+before-everywhere = refl
+
+pub before-89 : (a : Assignment) → mayFollow File a R89 ≡ true → a .last ≡ R88
+unfolding kindFor before-test
+before-89 a m = type-by (a .last) 88 (mp (mayFollow File a R89) (eqb (numberOfKind (a .last)) 88) (always before-test before-everywhere true a R89) m)
+
+-- a file begins with a 10 and ends with an 89
+pub first-10 : (a : Assignment) (k : Kind) → a .last ≡ Other → mayFollow File a k ≡ true → k ≡ R10
+unfolding mayFollow member kindFor
+first-10 a k e m = go (eqb (numberOfKind k) 10) refl (rw e at m)
+  where
+    go : (x : Bool) → eqb (numberOfKind k) 10 ≡ x → x || false ≡ true → k ≡ R10
+    go true p h = type-by k 10 p
+    go false p h = absurd (false≢true h)
+
+pub last-89 : (k : Kind) → isEnd k ≡ true → k ≡ R89
+unfolding every kindFor
+last-89 k e = type-by k 89 (mp (isEnd k) (eqb (numberOfKind k) 89) (of-kind (λ k. implies (isEnd k) (eqb (numberOfKind k) 89)) refl k) e)

@@ -2,3 +2,4 @@ pub mod Meets
 pub mod Plain
 pub mod Fits
 pub mod Stripped
+pub mod View
