@@ -15,7 +15,8 @@ use Rattle.rules.specs.Run.{mostRecords}
 use Rattle.rules.specs.declared.Assignment.{Assignment}
 use Rattle.rules.specs.declared.Kind.the-variants.{R10, R88}
 use Rattle.rules.specs.declared.Mode.the-variants.{File}
-use Rattle.operations.specs.Ends.{end89}
+pub use Rattle.operations.specs.Parting.{figuresOf}
+unfoldable pub use Rattle.operations.specs.Parting.{made}
 use Rattle.laws.specs.Meets.{gains, turns, Meets}
 
 -- every record has 81 bytes
@@ -26,14 +27,6 @@ Sized (r ∷ rs) = (length r ≡ 81) × Sized rs
 -- the assignment at hand behind a record 10: none
 abbrev pub headed : Assignment
 headed = nothingYet R10
-
--- the figures of a record 10 and a body, with the 89 behind them
-abbrev pub figuresOf : List (List ℕ) → Totals
-figuresOf body = (oneRecord ⊕ gains body) ⊕ oneRecord
-
--- the file made of them
-unfoldable pub made : List ℕ → List (List ℕ) → List (List ℕ)
-made head body = head ∷ (body ++ (end89 (figuresOf body) ∷ []))
 
 -- a record 10 that meets the rules, and behind it a body of whole assignments that meets them
 pub record Good (w : Window) (head : List ℕ) (body : List (List ℕ)) : Type 0 where

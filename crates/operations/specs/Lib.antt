@@ -1,2 +1,4 @@
 pub mod Ends
 pub mod Closing
+pub mod Joining
+pub mod Parting

@@ -1,7 +1,7 @@
 -- Document 01, "What may follow": what a record adds to the file, what it makes of the assignment at hand, and the key that it brings.
 -- Assumes nothing.
 use Prim.Native.Nat.{ℕ}
-use mathlib.Core.List.{List, [], _∷_}
+use mathlib.Core.List.{List, [], _∷_, _++_}
 use lib.Dec.{eqb}
 use Rattle.choice.specs.Choice.{if_then_else_}
 use Rattle.fields.specs.Bytes.{part}
@@ -122,3 +122,16 @@ after st r = afterFor (kindOf r) st r
 
 abbrev pub start : State
 start = record { file = none; assignment = nothingYet Other }
+
+-- what a list of records adds to the file, makes of the assignment at hand, and brings in keys
+unfoldable pub gains : List (List ℕ) → Totals
+gains [] = none
+gains (r ∷ rs) = gain r ⊕ gains rs
+
+unfoldable pub turns : Assignment → List (List ℕ) → Assignment
+turns a [] = a
+turns a (r ∷ rs) = turns (turn r a) rs
+
+unfoldable pub allKeys : List (List ℕ) → List ℕ
+allKeys [] = []
+allKeys (r ∷ rs) = keys r ++ allKeys rs

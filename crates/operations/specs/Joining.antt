@@ -1,0 +1,88 @@
+-- Document 01, "Closing, joining, parting": what joining two files answers, and what it writes.
+-- Assumes nothing.
+use Prim.Native.Nat.{ℕ, _+_, _-_}
+use mathlib.Core.List.{List, [], _∷_, _++_}
+use mathlib.Core.Bool.{Bool, false, _||_}
+use lib.Dec.{leb}
+use lib.ListN.{length, take, drop}
+use Rattle.choice.specs.Choice.{if_then_else_}
+use Rattle.dates.specs.Dates.{earlier}
+use Rattle.dates.specs.Windows.{windowOf}
+use Rattle.dates.specs.declared.ProcessDay.{ProcessDay}
+use Rattle.fields.specs.Bytes.{same, part}
+use Rattle.figures.specs.Figures.{count, plus, within, limitWide}
+use Rattle.figures.specs.Totals.{none, countPlus}
+use Rattle.figures.specs.declared.totals.Totals.{Totals}
+use Rattle.layout.specs.Rows.{member, mostAssignments}
+use Rattle.rules.specs.Growth.{keys, allKeys}
+use Rattle.rules.specs.Run.{refused, recordsOf, mostRecords, judge, onWindow}
+use Rattle.rules.specs.declared.Verdict.{Verdict}
+use Rattle.rules.specs.declared.Verdict.the-variants.{Accepted, Refused}
+use Rattle.operations.specs.Ends.{end89}
+use Rattle.operations.specs.Closing.{given, lentAfter}
+
+-- the sender: field 5 (9-16) of the record 10
+abbrev pub sender : List ℕ → List ℕ
+sender b = part 9 16 b
+
+-- both files' figures in one: records added less 2, the earlier first date
+abbrev pub both : Totals → Totals → Totals
+both s t =
+    record {
+      assignments = countPlus (s .assignments) (t .assignments);
+      transactions = countPlus (s .transactions) (t .transactions);
+      records = count (s .records .0 + t .records .0 - 2);
+      sum = plus (s .sum) (t .sum);
+      first = earlier (s .first) (t .first);
+    }
+
+-- a key of the second list stands in the first
+unfoldable pub shares : List ℕ → List ℕ → Bool
+shares ks [] = false
+shares ks (k ∷ l) = member k ks || shares ks l
+
+-- the first record that brings such a key, counted from 1 behind i records
+unfoldable pub sharedAt : ℕ → List ℕ → List (List ℕ) → ℕ
+sharedAt i ks [] = 0
+sharedAt i ks (r ∷ rs) = if shares ks (keys r) then i + 1 else sharedAt (i + 1) ks rs
+
+-- two accepted files with these figures: 20, 15, 3, 16, 13, 19
+unfoldable pub joining : List ℕ → List ℕ → ℕ → Totals → Totals → Verdict
+joining a b room s t =
+    if same (sender a) (sender b) then
+    (if shares (allKeys (recordsOf a)) (allKeys (recordsOf b)) then refused 15 2 (sharedAt 0 (allKeys (recordsOf a)) (recordsOf b)) 6
+    else (if leb (both s t .records .0) mostRecords then
+    (if leb (both s t .assignments .0) mostAssignments then
+    (if within (s .sum) (t .sum) limitWide then given room (both s t)
+    else refused 13 0 0 0)
+    else refused 16 0 0 0)
+    else refused 3 0 0 0))
+    else refused 20 2 1 5
+
+-- a file's own refusal bears its operand
+abbrev pub ofOperand : ℕ → Verdict → (Totals → Verdict) → Verdict
+ofOperand n (Accepted t) f = f t
+ofOperand n (Refused x) f = refused (x .number) n (x .«record») (x .field)
+
+-- what joining answers, into an output of this length: 1 first of all, then the first file's refusal, then the second's
+unfoldable pub joinOf : ProcessDay → List ℕ → List ℕ → ℕ → Verdict
+joinOf day a b room = onWindow (windowOf day) (λ w. ofOperand 1 (judge w a) (λ s. ofOperand 2 (judge w b) (λ t. joining a b room s t)))
+
+-- a file without its 89, and its assignments alone
+abbrev pub withoutEnd : List ℕ → List ℕ
+withoutEnd b = take (length b - 81) b
+
+abbrev pub assignmentsOf : List ℕ → List ℕ
+assignmentsOf b = drop 81 (withoutEnd b)
+
+-- the first file's record 10, both files' assignments unchanged and in order, and one new 89
+unfoldable pub joinedFile : List ℕ → List ℕ → Totals → List ℕ
+joinedFile a b t = withoutEnd a ++ (assignmentsOf b ++ end89 t)
+
+-- the figures of an answer
+abbrev pub figuresIn : Verdict → Totals
+figuresIn (Accepted t) = t
+figuresIn (Refused x) = none
+
+unfoldable pub joinedBytes : ProcessDay → List ℕ → List ℕ → List ℕ → List ℕ
+joinedBytes day a b out = lentAfter (joinOf day a b (length out)) (joinedFile a b (figuresIn (joinOf day a b (length out)))) out
