@@ -22,7 +22,6 @@ use Rattle.figures.specs.declared.totals.AssignmentTotals.{AssignmentTotals}
 use Rattle.figures.proofs.Laws.{⊕-none, none-⊕}
 use Rattle.laws.specs.Meets.{gains, turns, Meets, Ends}
 use Rattle.laws.proofs.Bytes.{Whole, whole}
-use Rattle.laws.proofs.Sound.{met, Ran}
 use Rattle.layout.specs.Rows.{member, AllHold}
 use Rattle.operations.specs.Ends.{endRecord, end88, end89}
 use Rattle.operations.specs.Closing.{opens, closedFigures, behind88, withEnds, bytesOf, closedFile}
@@ -159,9 +158,6 @@ ten-written r s rs e k =
     ∙ ap (λ (f : Totals). s ∷ withEnds (state (f ⊕ oneAssignment) (opened (serviceFor (serviceCode s)))) rs) (none-⊕ oneRecord))
 
 module _ (d : List ℕ) (figures : Totals) (v : Weighed d figures) where
-  ran : Ran Draft (v .window) none [] (start .assignment) (recordsOf d) (v .total)
-  ran = met Draft (v .window) 0 start [] (recordsOf d) (v .total) (v .ran)
-
   n>0 : 0 < length d / 81
   n>0 = some-records d (v .lengthy)
 
@@ -174,7 +170,7 @@ module _ (d : List ℕ) (figures : Totals) (v : Weighed d figures) where
         kept = [];
         assignment = nothingYet Other;
         counted = refl;
-        meets = subst (Meets Draft (v .window) none [] (nothingYet Other)) (sym (rest-start d (length d / 81))) (ran .meets);
+        meets = subst (Meets Draft (v .window) none [] (nothingYet Other)) (sym (rest-start d (length d / 81))) (v .meets);
         small = small-start;
       }
 
@@ -200,7 +196,7 @@ module _ (d : List ℕ) (figures : Totals) (v : Weighed d figures) where
       alone e =
           let i : recordsOf d ≡ recordAt 0 d ∷ [] = records-are ∙ ap (λ (x : List (List ℕ)). recordAt 0 d ∷ x) (rest-end d (length d / 81) 1 e) in
           let t : turns (nothingYet Other) (recordAt 0 d ∷ []) ≡ nothingYet R10 = ten-turned (recordAt 0 d) header in
-          ap (mayEnd Draft) (sym (ap (turns (nothingYet Other)) i ∙ t)) ∙ ran .ends .may
+          ap (mayEnd Draft) (sym (ap (turns (nothingYet Other)) i ∙ t)) ∙ v .ends .may
 
       go : (b : Bool) → ltb 1 (length d / 81) ≡ b → 1 < length d / 81
       go true e = ltb-true 1 (length d / 81) e
@@ -327,7 +323,7 @@ module _ (d before out : List ℕ) (at k : ℕ) (g : Going d before out at k) wh
     last-bytes =
         let e : k ≡ length d / 81 = omega (arith, g .most) in
         let f : sofar (gains (chunks k d)) ⊕ oneRecord ≡ figures =
-        all-told (gains (chunks k d)) ∙ ap (λ (x : ℕ). closedFigures (gains (chunks x d))) e ∙ ap closedFigures (sym (ran d figures v .total ∙ none-⊕ (gains (recordsOf d)))) ∙ sym (v .figured) in
+        all-told (gains (chunks k d)) ∙ ap (λ (x : ℕ). closedFigures (gains (chunks x d))) e ∙ sym (v .figured) in
         g .all
         ∙ ap (λ (x : List (List ℕ)). g .written ++ bytesOf (behindEnd (sofar (gains (chunks k d))) x)) (rest-end d (length d / 81) k e)
         ∙ ap (λ (x : Totals). g .written ++ (endRecord 0 89 x (date 0) ++ [])) f

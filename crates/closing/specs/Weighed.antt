@@ -7,15 +7,16 @@ use mathlib.Core.Bool.{false}
 use lib.ListN.{length, take, drop}
 use Rattle.dates.specs.declared.Window.{Window}
 use Rattle.drafts.specs.Block.{recordAt}
+use Rattle.figures.specs.Totals.{none}
 use Rattle.figures.specs.declared.totals.Totals.{Totals}
 use Rattle.figures.specs.declared.totals.AssignmentTotals.{AssignmentTotals}
+use Rattle.laws.specs.Meets.{Meets, Ends}
 use Rattle.operations.specs.Ends.{endRecord}
 use Rattle.operations.specs.Closing.{closedFigures}
 use Rattle.rules.specs.Codes.{serviceCode, codeFor, serviceFor}
-use Rattle.rules.specs.Growth.{start}
-use Rattle.rules.specs.Run.{badLength, run, recordsOf}
+use Rattle.rules.specs.Growth.{start, gains, turns}
+use Rattle.rules.specs.Run.{badLength, recordsOf}
 use Rattle.rules.specs.declared.Mode.the-variants.{Draft}
-use Rattle.rules.specs.declared.Verdict.the-variants.{Accepted}
 
 -- the bytes of the records from the k-th to before the n-th
 abbrev pub span : ℕ → ℕ → List ℕ → List ℕ
@@ -38,8 +39,8 @@ pub record CanClose (t : Totals) : Type 0 where
 -- a sound draft, and the figures of the file to be written for it
 pub record Weighed (d : List ℕ) (figures : Totals) : Type 0 where
   pub window : Window
-  pub total : Totals
   pub lengthy : badLength d ≡ false
   pub few : length d / 81 ≤ 200000
-  pub ran : run Draft window 0 start [] (recordsOf d) ≡ Accepted total
-  pub figured : figures ≡ closedFigures total
+  pub meets : Meets Draft window none [] (start .assignment) (recordsOf d)
+  pub ends : Ends Draft (turns (start .assignment) (recordsOf d))
+  pub figured : figures ≡ closedFigures (gains (recordsOf d))

@@ -1,3 +1,8 @@
+-- 1, then the draft's own refusal, then 19; nothing is written before all is judged.
+-- Assumes nothing.
+use mathlib.Core.Path.{_≡_, sym, ap, _∙_}
+use native.Mathlib.Omega.{arith}
+use Rattle.closing.proofs.Answers.{no-day, was-refused, too-short, may-write, wrote}
 use borrow.Author.Needs.{needs}
 use Rattle.closing.proofs.close.Statement.{statement}
 use Rattle.closing.proofs.close.Tie as tie
@@ -21,7 +26,9 @@ refuse-requires : tie.Need-refuse-requires
 refuse-requires c κs = search needs
 
 returns : tie.Need-returns
-returns c = ?
+returns c =
+    let a = c .before .before .before .before .before .before .args in
+    no-day (a .day) (a .draft .now) (a .out .now) _ (c .before .before .before .window .ensures) _ (c .refuse .ensures) (c .before .enum-told .given .1)
 
 weigh-requires : tie.Need-weigh-requires
 weigh-requires c κs = search needs
@@ -42,19 +49,27 @@ refuse-requires-2 : tie.Need-refuse-requires-2
 refuse-requires-2 c κs = search needs
 
 returns-2 : tie.Need-returns-2
-returns-2 c = ?
+returns-2 c =
+    let a = c .before .before .before .before .before .before .before .before .before .before .before .before .before .before .args in
+    too-short (a .day) (a .draft .now) (a .out .now) _ (c .before .before .before .before .before .before .before .before .before .before .before .window .ensures) _ (c .before .before .before .before .before .before .before .before .before .w .given .1) _ (c .before .before .before .before .before .before .before .weigh .ensures) _ (c .before .before .before .before .before .t .given .1) _ (c .refuse2 .ensures) (omega arith)
 
 write-requires : tie.Need-write-requires
-write-requires c κs = ?
+write-requires c κs =
+    let a = c .before .before .before .before .before .before .before .before .before .before .before .before .before .before .args in
+    may-write (a .day) (a .draft .now) (a .out .now) _ (c .before .before .before .before .before .before .before .before .before .before .before .window .ensures) _ (c .before .before .before .before .before .before .before .before .before .w .given .1) _ (c .before .before .before .before .before .before .before .weigh .ensures) _ (c .before .before .before .before .before .t .given .1) (omega arith)
 
 returns-3 : tie.Need-returns-3
-returns-3 c = ?
+returns-3 c =
+    let a = c .before .before .before .before .before .before .before .before .before .before .args in
+    was-refused (a .day) (a .draft .now) (a .out .now) _ (c .before .before .before .before .before .before .before .window .ensures) _ (c .before .before .before .before .before .w .given .1) _ (c .before .before .before .weigh .ensures) _ (c .before .refusal .given .1)
 
 same-length : tie.Need-same-length
 same-length c = search needs
 
 returns-4 : tie.Need-returns-4
-returns-4 c = ?
+returns-4 c =
+    let a = c .before .before .before .before .before .before .before .before .before .before .before .before .before .before .before .before .before .args in
+    wrote (a .day) (a .draft .now) (a .out .now) _ (c .before .before .before .before .before .before .before .before .before .before .before .before .before .before .window .ensures) _ (c .before .before .before .before .before .before .before .before .before .before .before .before .w .given .1) _ (c .before .before .before .before .before .before .before .before .before .before .weigh .ensures) _ (c .before .before .before .before .before .before .before .before .t .given .1) (omega arith) _ (c .before .before .write .ensures)
 
 pub close-spec : {M : Type 1} → statement M
 close-spec =

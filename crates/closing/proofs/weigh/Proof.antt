@@ -1,3 +1,9 @@
+-- 2, then 3 by the raw count, then what the draft's records give.
+-- Assumes nothing.
+use mathlib.Core.Path.{_≡_, sym, ap, _∙_}
+use native.Mathlib.Omega.{arith}
+use Rattle.rules.specs.declared.Verdict.the-variants.{Accepted}
+use Rattle.closing.proofs.Answers.{wrong-length, too-many, on-refused, on-accepted, can-close}
 use borrow.Author.Needs.{needs}
 use Rattle.closing.proofs.weigh.Statement.{statement}
 use Rattle.closing.proofs.weigh.Tie as tie
@@ -16,7 +22,9 @@ refuse-requires : tie.Need-refuse-requires
 refuse-requires c κs = search needs
 
 returns : tie.Need-returns
-returns c = ?
+returns c =
+    let a = c .before .before .before .before .args in
+    c .refuse .ensures ∙ wrong-length (a .w) (a .draft .now) _ (c .before .before .bad-length .ensures) (c .before .if1 .taken)
 
 openings-in-requires : tie.Need-openings-in-requires
 openings-in-requires c κs = search needs
@@ -31,7 +39,9 @@ refuse-requires-2 : tie.Need-refuse-requires-2
 refuse-requires-2 c κs = search needs
 
 returns-2 : tie.Need-returns-2
-returns-2 c = ?
+returns-2 c =
+    let a = c .before .before .before .before .before .before .args in
+    c .refuse2 .ensures ∙ too-many (a .w) (a .draft .now) _ (c .before .before .before .before .bad-length .ensures) (c .before .before .before .if1 .left) _ (c .before .before .openings-in .ensures .0) (c .before .if2 .taken)
 
 run-over-requires : tie.Need-run-over-requires
 run-over-requires c κs = search needs
@@ -43,13 +53,20 @@ enum-known-t : tie.Need-enum-known-t
 enum-known-t c = search needs
 
 closed-figures-requires : tie.Need-closed-figures-requires
-closed-figures-requires c κs = ?
+closed-figures-requires c κs =
+    let a = c .before .before .before .before .before .before .before .before .before .args in
+    can-close (a .w) (a .draft .now) _ (c .before .before .before .before .before .openings-in .ensures .0) (c .before .before .before .before .before .openings-in .ensures .1) (omega arith) _ (sym (c .before .before .before .run-over .ensures) ∙ c .before .t .given .1)
 
 returns-3 : tie.Need-returns-3
-returns-3 c = ?
+returns-3 c =
+    let a = c .before .before .before .before .before .before .before .before .before .args in
+    on-refused (a .w) (a .draft .now) _ (c .before .before .before .before .before .before .before .bad-length .ensures) (c .before .before .before .before .before .before .if1 .left) _ (c .before .before .before .before .before .openings-in .ensures .0) (c .before .before .before .before .if2 .left) _ (sym (c .before .before .before .run-over .ensures) ∙ c .before .refusal .given .1)
 
 returns-4 : tie.Need-returns-4
-returns-4 c = ?
+returns-4 c =
+    let a = c .before .before .before .before .before .before .before .before .before .before .args in
+    ap Accepted (c .closed-figures .ensures)
+    ∙ on-accepted (a .w) (a .draft .now) _ (c .before .before .before .before .before .before .before .before .bad-length .ensures) (c .before .before .before .before .before .before .before .if1 .left) _ (c .before .before .before .before .before .before .openings-in .ensures .0) (c .before .before .before .before .before .if2 .left) _ (sym (c .before .before .before .before .run-over .ensures) ∙ c .before .before .t .given .1)
 
 pub weigh-spec : {M : Type 1} → statement M
 weigh-spec =
