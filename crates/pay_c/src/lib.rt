@@ -1,6 +1,8 @@
 // The operations for programs in C or Rust: a slice is a pointer and a length, and the answer goes into ten lent numbers.
 
 ghost use mathlib.Core.Path.{_≡_};
+ghost use lib.ListN.{length};
+ghost use Rattle.operations.specs.Closing.{closeOf, closedBytes};
 ghost use Rattle.rules.specs.Run.{checkOf};
 ghost use Rattle.pay_c.specs.Answers.{dayFrom, numbers};
 use dates::ProcessDay;
@@ -53,6 +55,23 @@ pub extern "C" fn pay_check(year: u64, month: u64, day: u64, file: &[u8], answer
 {
     tell(
         checking::check(ProcessDay { year, month, day }, file),
+        answer,
+    );
+}
+
+#[no_mangle]
+pub extern "C" fn pay_close(
+    year: u64,
+    month: u64,
+    day: u64,
+    draft: &[u8],
+    out: &mut [u8],
+    answer: &mut [u64; 10],
+)
+    ensures { λ _. ⌜ (now (answer .exit) ≡ numbers (closeOf (dayFrom year month day) (now (draft .entry)) (length (now (out .entry))))) × (now (out .exit) ≡ closedBytes (dayFrom year month day) (now (draft .entry)) (now (out .entry))) ⌝ }
+{
+    tell(
+        closing::close(ProcessDay { year, month, day }, draft, out),
         answer,
     );
 }

@@ -1,0 +1,24 @@
+use mathlib.Core.Path.{ap, _∙_}
+use Rattle.pay_c.specs.Answers.{numbers}
+use borrow.Author.Needs.{needs}
+use Rattle.pay_c.proofs.pay_close.Statement.{statement}
+use Rattle.pay_c.proofs.pay_close.Tie as tie
+use Rattle.pay_c.proofs.pay_close.Reads as reads
+use Rattle.pay_c.proofs.pay_close.Lts as lts
+use Rattle.closing.proofs.close.Reads as close-reads
+use Rattle.pay_c.proofs.tell.Reads as tell-reads
+
+close-requires : tie.Need-close-requires
+close-requires c κs = search needs
+
+tell-requires : tie.Need-tell-requires
+tell-requires c κs = search needs
+
+same-length : tie.Need-same-length
+same-length c = search needs
+
+returns : tie.Need-returns
+returns c = (c .tell .ensures ∙ ap numbers (c .before .before .before .before .close .ensures .0), c .before .before .before .before .close .ensures .1)
+
+pub pay-close-spec : {M : Type 1} → statement M
+pay-close-spec = tie.close (tie.spec close-requires tell-requires same-length returns)
