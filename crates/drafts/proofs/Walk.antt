@@ -54,7 +54,7 @@ last-cut (suc n) b =
     let e : 81 + 81 * n ≡ 81 * suc n = omega arith in
     ap (λ (x : List (List ℕ)). take 81 b ∷ x) (last-cut n (drop 81 b) ∙ ap (λ (x : List ℕ). chunks n (drop 81 b) ++ (take 81 x ∷ [])) (drop-drop (81 * n) 81 b ∙ ap (λ (x : ℕ). drop x b) e))
 
-one-gain : (k : ℕ) (d : List ℕ) → gains (chunks (k + 1) d) ≡ gains (chunks k d) ⊕ gain (recordAt k d)
+pub one-gain : (k : ℕ) (d : List ℕ) → gains (chunks (k + 1) d) ≡ gains (chunks k d) ⊕ gain (recordAt k d)
 unfolding gains
 one-gain k d =
     ap (λ (x : ℕ). gains (chunks x d)) (add-one k) ∙ ap gains (last-cut k d) ∙ gains-join (chunks k d) (recordAt k d ∷ [])
