@@ -12,3 +12,5 @@ pub mod Closes
 pub mod Strips
 pub mod Closing
 pub mod View
+pub mod Keys
+pub mod Bodies
