@@ -14,3 +14,5 @@ pub mod Closing
 pub mod View
 pub mod Keys
 pub mod Bodies
+pub mod Made
+pub mod Joins
