@@ -16,3 +16,6 @@ pub mod Keys
 pub mod Bodies
 pub mod Made
 pub mod Joins
+pub mod Joined
+pub mod Three
+pub mod Joining

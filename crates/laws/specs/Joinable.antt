@@ -2,9 +2,9 @@
 -- Assumes nothing.
 use Prim.Native.Nat.{ℕ, _+_, _-_, _*_, _<_, _≤_}
 use mathlib.Core.Path.{_≡_}
-use mathlib.Core.Logic.{_⊎_}
+use mathlib.Core.Logic.{_⊎_, _↔_}
 use mathlib.Core.List.{List, [], _∷_, _++_}
-use lib.ListN.{length}
+use lib.ListN.{length, take}
 use Rattle.dates.specs.Windows.{windowOf}
 use Rattle.dates.specs.declared.ProcessDay.{ProcessDay}
 use Rattle.dates.specs.declared.Window.{Window}
@@ -17,8 +17,11 @@ use Rattle.rules.specs.Run.{refused, recordsOf, mostRecords, checkOf}
 use Rattle.rules.specs.declared.Refusal.{Refusal}
 use Rattle.rules.specs.declared.Verdict.{Verdict}
 use Rattle.rules.specs.declared.Verdict.the-variants.{Accepted, Refused}
+use Rattle.operations.specs.Ends.{end89}
 use Rattle.operations.specs.Joining.{sender, both, joinOf, joinedFile}
+use Rattle.operations.specs.Parting.{bodyOf}
 use Rattle.laws.specs.Meets.{allKeys}
+use Rattle.laws.specs.Plain.{FiguresOf}
 
 -- the key is one of the list
 unfoldable pub In : ℕ → List ℕ → Type 0
@@ -84,6 +87,27 @@ pub data JoinRefusing (day : ProcessDay) (a b : List ℕ) (room : ℕ) : Verdict
       → s .assignments .0 + t .assignments .0 ≤ mostAssignments → limitWide .0 < s .sum .0 + t .sum .0 → JoinRefusing day a b room (refused 13 0 0 0)
   short-output : (s t : Totals) → BothAccepted day a b s t → Joinable a b s t → room < 81 * both s t .records .0 → JoinRefusing day a b room (refused 19 0 0 0)
 
+-- the figures of a joined file: those of both files together, and those of its own records
+pub record AddedUp (day : ProcessDay) (a b : List ℕ) (u : Totals) : Type 0 where
+  pub first : Totals
+  pub second : Totals
+  pub first-accepted : checkOf day a ≡ Accepted first
+  pub second-accepted : checkOf day b ≡ Accepted second
+  pub added : u ≡ both first second
+  pub counted : FiguresOf (recordsOf (joinedFile a b u)) u
+
+-- the records of an accepted file: its record 10, those of its assignments, and its 89
+abbrev pub Framed : List ℕ → Totals → Type 0
+Framed b t = recordsOf b ≡ take 81 b ∷ (bodyOf b ++ (end89 t ∷ []))
+
+-- the records of a joined file: the first file's record 10, those of both files' assignments, and one 89
+pub record Keeps (a b : List ℕ) (u : Totals) : Type 0 where
+  pub first : Totals
+  pub second : Totals
+  pub first-framed : Framed a first
+  pub second-framed : Framed b second
+  pub records : recordsOf (joinedFile a b u) ≡ take 81 a ∷ (bodyOf a ++ (bodyOf b ++ (end89 u ∷ [])))
+
 -- three files joined, the first two first; a refusal of either joining is a refusal
 pub record FirstTwo (day : ProcessDay) (a b c : List ℕ) (room : ℕ) (u : Totals) : Type 0 where
   pub inner : Totals
@@ -95,3 +119,10 @@ pub record LastTwo (day : ProcessDay) (a b c : List ℕ) (room : ℕ) (u : Total
   pub inner : Totals
   pub one : joinOf day b c room ≡ Accepted inner
   pub two : joinOf day a (joinedFile b c inner) room ≡ Accepted u
+
+-- either way alike: joined or refused, and where they are joined the same figures and the same bytes
+pub record Associative (day : ProcessDay) (a b c : List ℕ) (room : ℕ) : Type 0 where
+  pub alike : (u : Totals) → FirstTwo day a b c room u ↔ LastTwo day a b c room u
+  pub figures : (u v : Totals) → FirstTwo day a b c room u → LastTwo day a b c room v → u ≡ v
+  pub bytes : (u v : Totals) (l : FirstTwo day a b c room u) (r : LastTwo day a b c room v)
+      → joinedFile (joinedFile a b (l .inner)) c u ≡ joinedFile a (joinedFile b c (r .inner)) v
