@@ -3,3 +3,4 @@ pub mod Plain
 pub mod Fits
 pub mod Stripped
 pub mod View
+pub mod Joinable
