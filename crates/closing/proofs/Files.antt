@@ -22,6 +22,7 @@ use Rattle.figures.specs.declared.totals.AssignmentTotals.{AssignmentTotals}
 use Rattle.figures.proofs.Laws.{⊕-none, none-⊕}
 use Rattle.laws.specs.Meets.{gains, turns, Meets, Ends}
 use Rattle.laws.proofs.Bytes.{Whole, whole}
+use Rattle.laws.proofs.Made.{bytes-join}
 use Rattle.layout.specs.Rows.{member, AllHold}
 use Rattle.operations.specs.Ends.{endRecord, end88, end89}
 use Rattle.operations.specs.Closing.{opens, closedFigures, behind88, withEnds, bytesOf, closedFile}
@@ -45,11 +46,6 @@ use Rattle.drafts.proofs.Walk.{next-of, plain, holds, step-on, step-turned, han
 use Rattle.closing.specs.Weighed.{span, endOf, InDraft, Weighed}
 
 -- ---- records and bytes
-bytes-join : (xs ys : List (List ℕ)) → bytesOf (xs ++ ys) ≡ bytesOf xs ++ bytesOf ys
-unfolding bytesOf
-bytes-join [] ys = refl
-bytes-join (x ∷ xs) ys = ap (λ (l : List ℕ). x ++ l) (bytes-join xs ys) ∙ sym (append-assoc x (bytesOf xs) (bytesOf ys))
-
 laid : (n : ℕ) (b : List ℕ) → 81 * n ≤ length b → bytesOf (chunks n b) ≡ take (81 * n) b
 unfolding bytesOf chunks
 laid zero b h = refl

@@ -126,22 +126,30 @@ summed-none b k t s e =
       places = omega (arith, ap (through k) i);
     }
 
+-- where the walk stops
+abbrev CutAt : List ℕ → ℕ → Totals → ℕ → Type 0
+CutAt b k t j = (j ≡ through k (recordsOf b)) × (t ≡ gains (take j (recordsOf b))) × Bounded 200000 t × (j ≤ length b / 81)
+
 module _ (b : List ℕ) (k : ℕ) (t : Totals) (left j : ℕ) (s : Summed b k t left j) where
-  stays : through 0 (rest b (length b / 81) j) ≡ 0
-  stays = none-through (rest b (length b / 81) j)
+  few-enough : Bounded 200000 t
+  few-enough =
+      record {
+        assignments = omega (arith, s .bounded .assignments, s .within, s .few);
+        transactions = omega (arith, s .bounded .transactions, s .within, s .few);
+        records = omega (arith, s .bounded .records, s .within, s .few);
+        sum = s .bounded .sum;
+      }
 
-  -- no assignment is left to come
-  pub cut-here : left ≡ 0 → (j ≡ through k (recordsOf b)) × (t ≡ gains (take j (recordsOf b)))
-  cut-here e =
-      let z : through left (rest b (length b / 81) j) ≡ 0 = ap (λ (x : ℕ). through x (rest b (length b / 81) j)) e ∙ stays in
-      (omega (arith, s .places, z), s .totals ∙ ap gains (sym (first-cuts j (length b / 81) b (s .within))))
+  stops : through left (rest b (length b / 81) j) ≡ 0 → CutAt b k t j
+  stops z = (omega (arith, s .places, z), s .totals ∙ ap gains (sym (first-cuts j (length b / 81) b (s .within))), few-enough, s .within)
 
-  -- or no record is
-  pub cut-end : length b / 81 ≤ j → (j ≡ through k (recordsOf b)) × (t ≡ gains (take j (recordsOf b)))
+  -- no assignment is left to come, or no record is
+  pub cut-here : left ≡ 0 → CutAt b k t j
+  cut-here e = stops (ap (λ (x : ℕ). through x (rest b (length b / 81) j)) e ∙ none-through (rest b (length b / 81) j))
+
+  pub cut-end : length b / 81 ≤ j → CutAt b k t j
   unfolding through
-  cut-end h =
-      let z : through left (rest b (length b / 81) j) ≡ 0 = ap (through left) (rest-end b (length b / 81) j (omega (arith, s .within))) in
-      (omega (arith, s .places, z), s .totals ∙ ap gains (sym (first-cuts j (length b / 81) b (s .within))))
+  cut-end h = stops (ap (through left) (rest-end b (length b / 81) j (omega (arith, s .within))))
 
   module _ (h : j < length b / 81) where
     here : rest b (length b / 81) j ≡ recordAt j b ∷ rest b (length b / 81) (j + 1)
@@ -161,7 +169,7 @@ module _ (b : List ℕ) (k : ℕ) (t : Totals) (left j : ℕ) (s : Summed b k t 
           part-long b j (omega arith),
           record {
             readable = readable .0;
-            bounded = record { assignments = omega (arith, s .bounded .assignments, s .few); transactions = omega (arith, s .bounded .transactions, s .few); records = omega (arith, s .bounded .records, s .few); sum = s .bounded .sum };
+            bounded = few-enough;
             sum = omega (arith, s .sum, rest-sum);
           },
         )

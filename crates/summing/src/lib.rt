@@ -1,11 +1,12 @@
 // The figures of records that were found sound, and the boundary behind so many assignments.
 
 ghost use mathlib.Core.Path.{_≡_};
-ghost use Prim.Native.Nat.{_-_, _<_};
+ghost use Prim.Native.Nat.{_-_, _/_, _≤_, _<_};
 ghost use lib.Dec.{eqb};
 ghost use lib.ListN.{length, take};
 ghost use Rattle.choice.specs.Choice.{if_then_else_};
 ghost use Rattle.figures.specs.Totals.{_⊕_};
+ghost use Rattle.growth.specs.Bounds.{Bounded};
 ghost use Rattle.operations.specs.Parting.{through};
 ghost use Rattle.rules.specs.Codes.{recordCode};
 ghost use Rattle.rules.specs.Growth.{gain, gains};
@@ -48,7 +49,7 @@ fn left_behind(left: u64, r: &[u8]) -> u64
 // The first k assignments of a body.
 pub fn first_of(body: &[u8], k: u64) -> Cut
     requires { ⌜ Summable (recordsOf (now body)) ⌝ }
-    ensures { λ x. ⌜ (x .records ≡ through k (recordsOf (now (body .entry)))) × (x .totals ≡ gains (take (x .records) (recordsOf (now (body .entry))))) ⌝ }
+    ensures { λ x. ⌜ (x .records ≡ through k (recordsOf (now (body .entry)))) × (x .totals ≡ gains (take (x .records) (recordsOf (now (body .entry))))) × Bounded 200000 (x .totals) × (x .records ≤ length (now (body .entry)) / 81) ⌝ }
 {
     let count = body.len() / 81;
     let mut totals = Totals::none();
