@@ -90,7 +90,7 @@ pub ends-none : (left : ℕ) (r : List ℕ) (n : ℕ) → n ≡ recordCode r →
 ends-none left r n e h = ap (λ (b : Bool). if b then left - 1 else left) (sym (ne-eqb (recordCode r) 88 (λ q. h (e ∙ q))))
 
 -- ---- the first records of a list, and none of them
-first-cuts : (j n : ℕ) (b : List ℕ) → j ≤ n → take j (chunks n b) ≡ chunks j b
+pub first-cuts : (j n : ℕ) (b : List ℕ) → j ≤ n → take j (chunks n b) ≡ chunks j b
 unfolding chunks
 first-cuts zero n b h = refl
 first-cuts (suc j) zero b h = absurd (omega arith)
