@@ -141,7 +141,7 @@ module _ (head body : List ℕ) (k : ℕ) (d : Divisible head body) (p : ℕ) (e
   file-long : (x : List ℕ) (f : Totals) → length (head ++ (x ++ end89 f)) ≡ length x + 162
   file-long x f = length-append head (x ++ end89 f) ∙ omega (arith, d .ten, length-append x (end89 f), end-length 0 89 f (date 0))
 
-  front-long : length (take (81 * p) body) ≡ 81 * p
+  pub front-long : length (take (81 * p) body) ≡ 81 * p
   front-long = length-take (81 * p) body ∙ omega (arith, d .whole)
 
   rest-long : length restOf ≡ length body - 81 * p

@@ -50,7 +50,7 @@ fn divide(head: &[u8], body: &[u8], k: u64, first: &mut [u8], second: &mut [u8])
     }
     let rest = &body[at..len];
     let others = summing::first_of(rest, 200001);
-    writing::put_file(first, head, &body[0..at], with_ends(cut.totals));
+    writing::put_file(first, head, &body[..at], with_ends(cut.totals));
     writing::put_file(second, head, rest, with_ends(others.totals));
     Parting::Parted
 }

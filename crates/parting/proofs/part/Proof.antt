@@ -1,3 +1,8 @@
+-- The check's refusals, then 21, then 19.
+-- Assumes nothing.
+use mathlib.Core.Path.{_≡_, refl, sym, ap, _∙_}
+use native.Mathlib.Omega.{arith}
+use Rattle.parting.proofs.Answers.{was-refused, below, above, parts, long-enough, divisible}
 use borrow.Author.Needs.{needs}
 use Rattle.parting.proofs.part.Statement.{statement}
 use Rattle.parting.proofs.part.Tie as tie
@@ -20,7 +25,9 @@ refuse-requires : tie.Need-refuse-requires
 refuse-requires c κs = search needs
 
 returns : tie.Need-returns
-returns c = ?
+returns c =
+    let a = c .before .before .before .before .before .before .before .before .before .before .args in
+    below (a .day) (a .file .now) (a .k) (a .first .now) (a .second .now) _ (c .before .before .before .before .before .before .check .ensures) _ (c .before .before .before .before .t .given .1) _ (c .refuse .ensures) (c .before .if1 .taken)
 
 cast-if2 : tie.Need-cast-if2
 cast-if2 c = search needs
@@ -29,10 +36,12 @@ refuse-requires-2 : tie.Need-refuse-requires-2
 refuse-requires-2 c κs = search needs
 
 returns-2 : tie.Need-returns-2
-returns-2 c = ?
+returns-2 c =
+    let a = c .before .before .before .before .before .before .before .before .before .before .before .before .args in
+    above (a .day) (a .file .now) (a .k) (a .first .now) (a .second .now) _ (c .before .before .before .before .before .before .before .before .check .ensures) _ (c .before .before .before .before .before .before .t .given .1) _ (c .refuse2 .ensures) (omega arith)
 
 sub-end : tie.Need-sub-end
-sub-end c = ?
+sub-end c = omega (arith, long-enough (c .before .before .before .before .before .before .before .before .before .before .before .args .day) (c .before .before .before .before .before .before .before .before .before .before .before .args .file .now) _ (sym (c .before .before .before .before .before .before .before .check .ensures) ∙ c .before .before .before .before .before .t .given .1))
 
 sub-divide : tie.Need-sub-divide
 sub-divide c = search needs
@@ -41,22 +50,26 @@ part-divide-start : tie.Need-part-divide-start
 part-divide-start c = search needs
 
 part-divide-end : tie.Need-part-divide-end
-part-divide-end c = ?
+part-divide-end c = omega (arith, long-enough (c .before .before .before .before .before .before .before .before .before .before .before .args .day) (c .before .before .before .before .before .before .before .before .before .before .before .args .file .now) _ (sym (c .before .before .before .before .before .before .before .check .ensures) ∙ c .before .before .before .before .before .t .given .1))
 
 sub-divide-2 : tie.Need-sub-divide-2
-sub-divide-2 c = ?
+sub-divide-2 c = omega (arith, long-enough (c .before .before .before .before .before .before .before .before .before .before .before .before .args .day) (c .before .before .before .before .before .before .before .before .before .before .before .before .args .file .now) _ (sym (c .before .before .before .before .before .before .before .before .check .ensures) ∙ c .before .before .before .before .before .before .t .given .1))
 
 part-divide-start-2 : tie.Need-part-divide-start-2
-part-divide-start-2 c = ?
+part-divide-start-2 c = omega (arith, long-enough (c .before .before .before .before .before .before .before .before .before .before .before .before .args .day) (c .before .before .before .before .before .before .before .before .before .before .before .before .args .file .now) _ (sym (c .before .before .before .before .before .before .before .before .check .ensures) ∙ c .before .before .before .before .before .before .t .given .1))
 
 part-divide-end-2 : tie.Need-part-divide-end-2
 part-divide-end-2 c = search needs
 
 divide-requires : tie.Need-divide-requires
-divide-requires c κs = ?
+divide-requires c κs =
+    let a = c .before .before .before .before .before .before .before .before .before .before .before .before .before .before .before .args in
+    divisible (a .day) (a .file .now) _ (sym (c .before .before .before .before .before .before .before .before .before .before .before .check .ensures) ∙ c .before .before .before .before .before .before .before .before .before .t .given .1)
 
 returns-3 : tie.Need-returns-3
-returns-3 c = ?
+returns-3 c =
+    let a = c .before .before .before .before .before .before .before .args in
+    was-refused (a .day) (a .file .now) (a .k) (a .first .now) (a .second .now) _ (c .before .before .before .check .ensures) _ (c .before .refusal .given .1)
 
 same-length : tie.Need-same-length
 same-length c = search needs
@@ -65,7 +78,10 @@ same-length-2 : tie.Need-same-length-2
 same-length-2 c = search needs
 
 returns-4 : tie.Need-returns-4
-returns-4 c = ?
+returns-4 c =
+    let a = c .before .before .before .before .before .before .before .before .before .before .before .before .before .before .before .before .before .before .before .before .args in
+    let d = c .before .before .before .before .divide .ensures in
+    parts (a .day) (a .file .now) (a .k) (a .first .now) (a .second .now) _ (c .before .before .before .before .before .before .before .before .before .before .before .before .before .before .before .before .check .ensures) _ (c .before .before .before .before .before .before .before .before .before .before .before .before .before .before .t .given .1) (c .before .before .before .before .before .before .before .before .before .before .before .if1 .left) (omega arith) _ _ _ (d .0) (d .1) (d .2)
 
 pub part-spec : {M : Type 1} → statement M
 part-spec =
