@@ -9,6 +9,7 @@ use Rattle.dates.specs.Windows.{windowOf}
 use Rattle.dates.specs.declared.ProcessDay.{ProcessDay}
 use Rattle.dates.specs.declared.Window.{Window}
 use Rattle.dates.specs.declared.Opening.the-variants.{Open}
+use Rattle.fields.specs.Bytes.{part}
 use Rattle.figures.specs.declared.totals.Totals.{Totals}
 use Rattle.rules.specs.Run.{recordsOf, checkOf}
 use Rattle.rules.specs.declared.Refusal.{Refusal}
@@ -38,6 +39,9 @@ module _ (w : Window) (b : List ℕ) (t : Totals) (v : View w b t) where
   pub view-keys : keysOf b ≡ allKeys (v .body)
   view-keys = ap keysOf (v .bytes) ∙ file-keys w (v .head) (v .body) (v .good)
 
+  pub view-sender : sender b ≡ part 9 16 (v .head)
+  view-sender = ap sender (v .bytes) ∙ file-sender w (v .head) (v .body) (v .good)
+
   pub view-body : bodyOf b ≡ v .body
   view-body = ap bodyOf (v .bytes) ∙ body-records w (v .head) (v .body) (v .good)
 
@@ -55,11 +59,22 @@ module _ (w : Window) (b : List ℕ) (t : Totals) (v : View w b t) where
   view-records = ap (λ (x : Totals). x .records .0) (v .figures) ∙ omega (arith, gains-records (v .body))
 
 -- ---- two files that may be joined
+-- bodies that go together, under one sender
+pub joinable : (w : Window) (a b : List ℕ) (s t : Totals) (va : View w a s) (vb : View w b t) → part 9 16 (va .head) ≡ part 9 16 (vb .head) → Together (va .body) (vb .body) → Joinable a b s t
+joinable w a b s t va vb e g =
+    record {
+      senders = view-sender w a s va ∙ e ∙ sym (view-sender w b t vb);
+      apart = λ k p q. g .apart k (subst (In k) (view-keys w a s va) p) (subst (In k) (view-keys w b t vb) q);
+      records = omega (arith, g .few, view-records w a s va, view-records w b t vb);
+      assignments = omega (arith, g .rooms, ap (λ (x : Totals). x .assignments .0) (va .figures), ap (λ (x : Totals). x .assignments .0) (vb .figures));
+      sums = omega (arith, g .sums, ap (λ (x : Totals). x .sum .0) (va .figures), ap (λ (x : Totals). x .sum .0) (vb .figures));
+    }
+
 module _ (w : Window) (a b : List ℕ) (s t : Totals) (va : View w a s) (vb : View w b t) (j : Joinable a b s t) where
   pub together : Together (va .body) (vb .body)
   together =
       record {
-        apart = λ k p q. j .apart k (subst (λ (l : List ℕ). In k l) (sym (view-keys w a s va)) p) (subst (λ (l : List ℕ). In k l) (sym (view-keys w b t vb)) q);
+        apart = λ k p q. j .apart k (subst (In k) (sym (view-keys w a s va)) p) (subst (In k) (sym (view-keys w b t vb)) q);
         few = omega (arith, j .records, view-records w a s va, view-records w b t vb);
         rooms = omega (arith, j .assignments, ap (λ (x : Totals). x .assignments .0) (va .figures), ap (λ (x : Totals). x .assignments .0) (vb .figures));
         sums = omega (arith, j .sums, ap (λ (x : Totals). x .sum .0) (va .figures), ap (λ (x : Totals). x .sum .0) (vb .figures));
@@ -83,8 +98,7 @@ module _ (w : Window) (a b : List ℕ) (s t : Totals) (va : View w a s) (vb : Vi
 
   -- the first file's sender, both files' keys
   pub joined-sender : sender (joinedFile a b (both s t)) ≡ sender a
-  joined-sender =
-      ap sender file-joined ∙ file-sender w (va .head) (va .body ++ vb .body) (joined-view .good) ∙ sym (file-sender w (va .head) (va .body) (va .good)) ∙ sym (ap sender (va .bytes))
+  joined-sender = view-sender w (joinedFile a b (both s t)) (both s t) joined-view ∙ sym (view-sender w a s va)
 
   pub joined-keys : keysOf (joinedFile a b (both s t)) ≡ keysOf a ++ keysOf b
   joined-keys =

@@ -4,3 +4,4 @@ pub mod Fits
 pub mod Stripped
 pub mod View
 pub mod Joinable
+pub mod Partable
