@@ -12,14 +12,13 @@ use Rattle.dates.specs.declared.Opening.the-variants.{Open}
 use Rattle.fields.specs.Bytes.{part}
 use Rattle.figures.specs.declared.totals.Totals.{Totals}
 use Rattle.rules.specs.Run.{recordsOf, checkOf}
-use Rattle.rules.specs.declared.Refusal.{Refusal}
 use Rattle.rules.specs.declared.Verdict.{Verdict}
-use Rattle.rules.specs.declared.Verdict.the-variants.{Accepted, Refused}
+use Rattle.rules.specs.declared.Verdict.the-variants.{Accepted}
 use Rattle.operations.specs.Ends.{end89}
 use Rattle.operations.specs.Joining.{sender, both, joinOf, joinedFile}
 use Rattle.operations.specs.Parting.{bodyOf}
 use Rattle.laws.specs.Meets.{allKeys}
-use Rattle.laws.specs.View.{figuresOf, made, Good}
+use Rattle.laws.specs.View.{figuresOf, made}
 use Rattle.laws.specs.Joinable.{In, keysOf, BothAccepted, Joinable, Framed}
 use Rattle.laws.proofs.Sound.{keys-join}
 use Rattle.laws.proofs.EndsPut.{gains-records}

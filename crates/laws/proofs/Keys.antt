@@ -1,15 +1,13 @@
 -- Keys in lists: the tests say what is in a list, what two lists share, and where it first stands; keys new to a list and to one another.
 -- Assumes nothing.
-use Prim.Native.Nat.{ℕ, suc, _+_}
+use Prim.Native.Nat.{ℕ, _+_}
 use mathlib.Core.Path.{_≡_, refl, sym, ap, subst, _∙_}
 use mathlib.Core.Logic.{_⊎_, inl, inr, ⊎-elim}
-use mathlib.Core.List.{List, [], _∷_, _++_, append-nil, append-assoc}
+use mathlib.Core.List.{List, [], _∷_, _++_, append-assoc}
 use mathlib.Core.Bool.{Bool, true, false, _||_, false≢true, true≢false}
 use native.Mathlib.Omega.{arith}
-use borrow.Author.Tests.{eqb-true, eqb-false, eq-eqb}
+use borrow.Author.Tests.{eqb-true, eq-eqb}
 use lib.Dec.{eqb}
-use lib.ListN.{length}
-use Rattle.choice.specs.Choice.{if_then_else_}
 use Rattle.layout.specs.Rows.{member}
 use Rattle.rules.specs.Growth.{keys}
 use Rattle.operations.specs.Joining.{shares, sharedAt}

@@ -21,3 +21,4 @@ pub mod Three
 pub mod Joining
 pub mod Cuts
 pub mod Parting
+pub mod OneAnswer

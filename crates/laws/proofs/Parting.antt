@@ -1,9 +1,9 @@
 -- Demand 3 for parting, on bytes: parted exactly at a boundary, both parts are accepted, and joined again they are the file.
 -- Assumes nothing.
-use Prim.Native.Nat.{ℕ, _+_, _-_, _*_, _≤_, _<_}
-use mathlib.Core.Path.{_≡_, refl, sym, ap, ap₂, subst, _∙_}
-use mathlib.Core.Logic.{_↔_, _⊎_, inl, inr}
-use mathlib.Core.List.{List, [], _∷_, _++_}
+use Prim.Native.Nat.{ℕ, _+_, _≤_, _<_}
+use mathlib.Core.Path.{_≡_, refl, sym, ap, subst, _∙_}
+use mathlib.Core.Logic.{_↔_, inl, inr}
+use mathlib.Core.List.{List, _++_}
 use mathlib.Core.Bool.{Bool, true, false, _&&_}
 use native.Mathlib.Omega.{arith}
 use borrow.Author.Tests.{leb-true, leb-false, ltb-true, ltb-false}
@@ -19,19 +19,16 @@ use Rattle.rules.specs.Run.{checkOf}
 use Rattle.rules.specs.declared.Refusal.{Refusal}
 use Rattle.rules.specs.declared.Verdict.{Verdict}
 use Rattle.rules.specs.declared.Verdict.the-variants.{Accepted, Refused}
-use Rattle.operations.specs.Joining.{sender, both, joinOf, joinedFile}
-use Rattle.operations.specs.Parting.{bodyOf, firstPart, secondPart, ofCheck, notParted, partOf, lentParted, partedFirst, partedSecond}
+use Rattle.operations.specs.Joining.{both, joinOf, joinedFile}
+use Rattle.operations.specs.Parting.{firstPart, secondPart, ofCheck, notParted, partOf, lentParted, partedFirst, partedSecond}
 use Rattle.operations.specs.declared.Parting.{Parting}
 use Rattle.operations.specs.declared.Parting.the-variants.{Parted, NotParted}
-use Rattle.laws.specs.Meets.{gains, allKeys}
 use Rattle.laws.specs.View.{figuresOf}
 use Rattle.laws.specs.Joinable.{BothAccepted}
 use Rattle.laws.specs.Partable.{Boundary, PartRefusing, own-refusal, no-boundary, short-parts, PartsAccepted}
 use Rattle.laws.proofs.Demand2.{accepting}
-use Rattle.laws.proofs.EndsPut.{gains-records}
-use Rattle.laws.proofs.Bodies.{Cut, Together}
-use Rattle.laws.proofs.Made.{fileOf, View, view, file-length, file-sender, both-are}
-use Rattle.laws.proofs.Joined.{view-checks, view-length, view-keys, view-body, view-head, view-records, joinable, file-joined, accepts}
+use Rattle.laws.proofs.Made.{fileOf, View, view, both-are}
+use Rattle.laws.proofs.Joined.{view-checks, view-length, view-body, view-head, view-records, joinable, file-joined, accepts}
 use Rattle.laws.proofs.Cuts.{firstOf, othersOf, CutBody, cut-body}
 
 -- ---- what parting answers

@@ -3,7 +3,7 @@
 use Prim.Native.Nat.{ℕ, _+_, _*_, _≤_}
 use mathlib.Core.Path.{_≡_, sym, ap, subst, _∙_}
 use mathlib.Core.Logic.{⊎-elim}
-use mathlib.Core.List.{List, _++_, append-assoc}
+use mathlib.Core.List.{List, append-assoc}
 use native.Mathlib.Omega.{arith}
 use lib.ListN.{length}
 use Rattle.dates.specs.Windows.{windowOf}
@@ -18,7 +18,7 @@ use Rattle.laws.specs.View.{figuresOf}
 use Rattle.laws.specs.Joinable.{In, keysOf, Joinable, FirstTwo, LastTwo, Associative}
 use Rattle.laws.proofs.Keys.{in-join, in-left, in-right}
 use Rattle.laws.proofs.Made.{fileOf, View}
-use Rattle.laws.proofs.Joined.{view-checks, view-length, view-records, file-joined, figures-joined, joined-view, joined-sender, joined-keys, Accepting, accepting, accepts}
+use Rattle.laws.proofs.Joined.{view-checks, view-length, view-records, file-joined, figures-joined, joined-view, joined-sender, joined-keys, accepting, accepts}
 
 module _ (w : Window) (a b c : List ℕ) (s t r : Totals) (va : View w a s) (vb : View w b t) (vc : View w c r) where
   -- what lets the first two be joined, and then the third

@@ -5,3 +5,4 @@ pub mod Stripped
 pub mod View
 pub mod Joinable
 pub mod Partable
+pub mod Promises

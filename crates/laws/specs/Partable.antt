@@ -12,7 +12,7 @@ use Rattle.rules.specs.declared.Refusal.{Refusal}
 use Rattle.rules.specs.declared.Verdict.the-variants.{Accepted, Refused}
 use Rattle.operations.specs.Parting.{firstPart, secondPart, notParted}
 use Rattle.operations.specs.declared.Parting.{Parting}
-use Rattle.operations.specs.declared.Parting.the-variants.{Parted, NotParted}
+use Rattle.operations.specs.declared.Parting.the-variants.{NotParted}
 
 -- k assignments go to the first part, and some are left
 pub record Boundary (k : ℕ) (t : Totals) : Type 0 where
