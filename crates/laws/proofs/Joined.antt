@@ -115,7 +115,7 @@ module _ (w : Window) (a b : List ℕ) (s t : Totals) (va : View w a s) (vb : Vi
       ∙ ap (λ (rs : List (List ℕ)). take 81 a ∷ rs) (append-assoc (bodyOf a) (bodyOf b) (end89 (both s t) ∷ []))
 
 -- ---- accepted, and what that means
-module _ (day : ProcessDay) (w : Window) (a b : List ℕ) (room : ℕ) (s t : Totals) (o : windowOf day ≡ Open w) (c : BothAccepted day a b s t) where
+module _ (day : ProcessDay) (a b : List ℕ) (room : ℕ) (s t : Totals) (c : BothAccepted day a b s t) where
   -- of two accepted files
   pub record Accepting (u : Totals) : Type 0 where
     pub joinable : Joinable a b s t
@@ -123,14 +123,14 @@ module _ (day : ProcessDay) (w : Window) (a b : List ℕ) (room : ℕ) (s t : To
     pub figures : u ≡ both s t
 
   pub accepting : (u : Totals) → joinOf day a b room ≡ Accepted u → Accepting u
-  accepting u e = go (joinOf day a b room) (outcome day a b room w s t o c) e
+  accepting u e = go (joinOf day a b room) (outcome day a b room s t c) e
     where
       go : (v : Verdict) → Outcome day a b room s t v → v ≡ Accepted u → Accepting u
       go v (joins j h) e = record { joinable = j; fits = h; figures = cc }
       go v (refuses x r h) e = absurd (let z : _≡_ {A = ℕ} 0 1 = cc in omega arith)
 
   pub accepts : Joinable a b s t → 81 * both s t .records .0 ≤ room → joinOf day a b room ≡ Accepted (both s t)
-  accepts j h = go (joinOf day a b room) (outcome day a b room w s t o c)
+  accepts j h = go (joinOf day a b room) (outcome day a b room s t c)
     where
       go : (v : Verdict) → Outcome day a b room s t v → v ≡ Accepted (both s t)
       go v (joins j h) = refl

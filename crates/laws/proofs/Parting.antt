@@ -6,10 +6,11 @@ use mathlib.Core.Logic.{_↔_, inl, inr}
 use mathlib.Core.List.{List, _++_}
 use mathlib.Core.Bool.{Bool, true, false, _&&_}
 use native.Mathlib.Omega.{arith}
-use borrow.Author.Tests.{leb-true, leb-false, ltb-true, ltb-false}
+use borrow.Author.Tests.{leb-true, leb-false, le-leb, lt-leb, ltb-true, ltb-false, lt-ltb, le-ltb}
 use lib.Dec.{leb, ltb}
 use lib.ListN.{length, drop, length-append}
 use Rattle.choice.specs.Choice.{if_then_else_}
+use Rattle.fields.proofs.Tests.{and-both}
 use Rattle.dates.specs.Windows.{windowOf}
 use Rattle.dates.specs.declared.ProcessDay.{ProcessDay}
 use Rattle.dates.specs.declared.Window.{Window}
@@ -32,38 +33,66 @@ use Rattle.laws.proofs.Joined.{view-checks, view-length, view-body, vie
 use Rattle.laws.proofs.Cuts.{firstOf, othersOf, CutBody, cut-body}
 
 -- ---- what parting answers
+first-fails : (p q : Bool) → p ≡ false → p && q ≡ false
+first-fails p q e = rw e
+
+second-fails : (p q : Bool) → q ≡ false → p && q ≡ false
+second-fails true q e = e
+second-fails false q e = refl
+
+boundary : (k : ℕ) (t : Totals) → Boundary k t → leb 1 k && ltb k (t .assignments .0) ≡ true
+boundary k t h = and-both _ _ (le-leb 1 k (h .some)) (lt-ltb k (t .assignments .0) (h .others))
+
 module _ (day : ProcessDay) (b : List ℕ) (k room1 room2 : ℕ) where
+  -- the two tests: a boundary, and room for both parts
+  abbrev tested : Bool → Bool → Parting
+  tested c d = if c then (if d then Parted else notParted 19) else notParted 21
+
+  part-is : (t : Totals) (c d : Bool) → checkOf day b ≡ Accepted t → leb 1 k && ltb k (t .assignments .0) ≡ c
+      → leb (length (firstPart k b)) room1 && leb (length (secondPart k b)) room2 ≡ d → partOf day b k room1 room2 ≡ tested c d
+  unfolding partOf
+  part-is t c d e p q =
+      ap (λ (v : Verdict). ofCheck v (λ t. tested (leb 1 k && ltb k (t .assignments .0)) (leb (length (firstPart k b)) room1 && leb (length (secondPart k b)) room2))) e
+      ∙ (λ i. tested (p i) (q i))
+
+  own-is : (x : Refusal) → checkOf day b ≡ Refused x → partOf day b k room1 room2 ≡ NotParted x
+  unfolding partOf
+  own-is x e = ap (λ (v : Verdict). ofCheck v (λ t. tested (leb 1 k && ltb k (t .assignments .0)) (leb (length (firstPart k b)) room1 && leb (length (secondPart k b)) room2))) e
+
   data Answer : Parting → Type 0 where
     parted : (t : Totals) → checkOf day b ≡ Accepted t → Boundary k t → length (firstPart k b) ≤ room1 → length (secondPart k b) ≤ room2 → Answer Parted
     not-parted : (x : Refusal) → PartRefusing day b k room1 room2 (NotParted x) → Answer (NotParted x)
 
   answer : Answer (partOf day b k room1 room2)
-  unfolding partOf
   answer = go (checkOf day b) refl
     where
       rooms : (t : Totals) (x y : Bool) → checkOf day b ≡ Accepted t → Boundary k t → leb (length (firstPart k b)) room1 ≡ x → leb (length (secondPart k b)) room2 ≡ y
-          → Answer (if x && y then Parted else notParted 19)
+          → Answer (tested true (x && y))
       rooms t true true e h p q = parted t e h (leb-true _ _ p) (leb-true _ _ q)
       rooms t true false e h p q = not-parted _ (short-parts t e h (inr (leb-false _ _ q)))
       rooms t false y e h p q = not-parted _ (short-parts t e h (inl (leb-false _ _ p)))
 
       bounds : (t : Totals) (x y : Bool) → checkOf day b ≡ Accepted t → leb 1 k ≡ x → ltb k (t .assignments .0) ≡ y
-          → Answer (if x && y then (if leb (length (firstPart k b)) room1 && leb (length (secondPart k b)) room2 then Parted else notParted 19) else notParted 21)
+          → Answer (tested (x && y) (leb (length (firstPart k b)) room1 && leb (length (secondPart k b)) room2))
       bounds t true true e p q = rooms t _ _ e record { some = leb-true _ _ p; others = ltb-true _ _ q } refl refl
       bounds t true false e p q = not-parted _ (no-boundary t e (inr (ltb-false _ _ q)))
       bounds t false y e p q = let z = leb-false 1 k p in not-parted _ (no-boundary t e (inl (omega (arith, z))))
 
-      go : (v : Verdict) → checkOf day b ≡ v
-          → Answer (ofCheck v (λ t.
-          if leb 1 k && ltb k (t .assignments .0) then
-          (if leb (length (firstPart k b)) room1 && leb (length (secondPart k b)) room2 then Parted else notParted 19)
-          else notParted 21))
-      go (Accepted t) e = bounds t (leb 1 k) (ltb k (t .assignments .0)) e refl refl
-      go (Refused x) e = not-parted x (own-refusal x e)
+      go : (v : Verdict) → checkOf day b ≡ v → Answer (partOf day b k room1 room2)
+      go (Accepted t) e = subst Answer (sym (part-is t _ _ e refl refl)) (bounds t _ _ e refl refl)
+      go (Refused x) e = subst Answer (sym (own-is x e)) (not-parted x (own-refusal x e))
+
+  -- each reason has its answer
+  refuses-so : (v : Parting) → PartRefusing day b k room1 room2 v → partOf day b k room1 room2 ≡ v
+  refuses-so v (own-refusal x e) = own-is x e
+  refuses-so v (no-boundary t e (inl z)) = part-is t _ _ e (first-fails _ _ (lt-leb 1 k (omega (arith, z)))) refl
+  refuses-so v (no-boundary t e (inr z)) = part-is t _ _ e (second-fails (leb 1 k) _ (le-ltb k (t .assignments .0) z)) refl
+  refuses-so v (short-parts t e h (inl z)) = part-is t _ _ e (boundary k t h) (first-fails _ _ (lt-leb _ _ z))
+  refuses-so v (short-parts t e h (inr z)) = part-is t _ _ e (boundary k t h) (second-fails (leb (length (firstPart k b)) room1) _ (lt-leb _ _ z))
 
 -- a refusal names the first reason in the stated order
-pub part-order : (day : ProcessDay) (b : List ℕ) (k room1 room2 : ℕ) (x : Refusal) → partOf day b k room1 room2 ≡ NotParted x → PartRefusing day b k room1 room2 (NotParted x)
-part-order day b k room1 room2 x e = go (partOf day b k room1 room2) (answer day b k room1 room2) e
+pub part-order : (day : ProcessDay) (b : List ℕ) (k room1 room2 : ℕ) (x : Refusal) → (partOf day b k room1 room2 ≡ NotParted x) ↔ PartRefusing day b k room1 room2 (NotParted x)
+part-order day b k room1 room2 x = (go (partOf day b k room1 room2) (answer day b k room1 room2), refuses-so day b k room1 room2 (NotParted x))
   where
     go : (v : Parting) → Answer day b k room1 room2 v → v ≡ NotParted x → PartRefusing day b k room1 room2 (NotParted x)
     go v (parted t a h p q) e = absurd (let z : _≡_ {A = ℕ} 0 1 = cc in omega arith)
@@ -83,18 +112,7 @@ module _ (day : ProcessDay) (b : List ℕ) (t : Totals) (k room1 room2 : ℕ) (e
 
   -- an accepted file, with room enough, is parted exactly where k and what is left are assignments of it
   pub parted-exactly : length (firstPart k b) ≤ room1 → length (secondPart k b) ≤ room2 → (partOf day b k room1 room2 ≡ Parted) ↔ Boundary k t
-  parted-exactly p q = (λ h. at-boundary h .0, λ h. go h (partOf day b k room1 room2) (answer day b k room1 room2))
-    where
-      refusing : Boundary k t → (v : Parting) → PartRefusing day b k room1 room2 v → v ≡ Parted
-      refusing h v (own-refusal x f) = absurd (let z : _≡_ {A = ℕ} 0 1 = cc in omega arith)
-      refusing h v (no-boundary u f (inl z)) = absurd (omega (arith, z, h .some))
-      refusing h v (no-boundary u f (inr z)) = absurd (omega (arith, z, h .others, ap (λ (x : Totals). x .assignments .0) (same-figures day b u t f e)))
-      refusing h v (short-parts u f g (inl z)) = absurd (omega (arith, z, p))
-      refusing h v (short-parts u f g (inr z)) = absurd (omega (arith, z, q))
-
-      go : Boundary k t → (v : Parting) → Answer day b k room1 room2 v → v ≡ Parted
-      go h v (parted u f g p q) = refl
-      go h v (not-parted y r) = refusing h (NotParted y) r
+  parted-exactly p q = (λ h. at-boundary h .0, λ h. part-is day b k room1 room2 t _ _ e (boundary k t h) (and-both _ _ (le-leb _ _ p) (le-leb _ _ q)))
 
 -- ---- the two parts
 module _ (w : Window) (b : List ℕ) (t : Totals) (k : ℕ) (v : View w b t) (h : Boundary k t) where
@@ -148,7 +166,7 @@ module _ (w : Window) (b : List ℕ) (t : Totals) (k : ℕ) (v : View w b t) (h 
         first = view-checks w (firstPart k b) x first-view day o;
         second = view-checks w (secondPart k b) y second-view day o;
       } in (
-        accepts day w (firstPart k b) (secondPart k b) room x y o c j (omega (arith, ap (λ (z : Totals). z .records .0) u, view-length w b t v, fits)) ∙ ap Accepted u,
+        accepts day (firstPart k b) (secondPart k b) room x y c j (omega (arith, ap (λ (z : Totals). z .records .0) u, view-length w b t v, fits)) ∙ ap Accepted u,
         ap (joinedFile (firstPart k b) (secondPart k b)) (sym u)
             ∙ file-joined w (firstPart k b) (secondPart k b) x y first-view second-view j
             ∙ ap (fileOf (v .head)) (cut .whole)
