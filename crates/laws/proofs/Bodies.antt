@@ -2,7 +2,7 @@
 -- Assumes nothing.
 use Prim.Native.Nat.{ℕ, _+_, _≤_}
 use mathlib.Core.Path.{_≡_, refl, sym, ap, subst, _∙_}
-use mathlib.Core.Logic.{_⊎_, inl, inr, ⊎-elim}
+use mathlib.Core.Logic.{⊎-elim}
 use mathlib.Core.List.{List, [], _∷_, _++_, append-nil}
 use mathlib.Core.Bool.{Bool, true, false, _||_, false≢true}
 use native.Mathlib.Omega.{arith}
@@ -17,7 +17,7 @@ use Rattle.figures.specs.declared.totals.Totals.{Totals}
 use Rattle.layout.specs.Rows.{member, mostAssignments, AllHold}
 use Rattle.rules.specs.Codes.{numberOfKind, kindFor, kindOf}
 use Rattle.rules.specs.Order.{behind, mayFollow}
-use Rattle.rules.specs.Layouts.{tableFor, rows}
+use Rattle.rules.specs.Layouts.{tableFor}
 use Rattle.rules.specs.Growth.{gain, turnFor, turn, keys}
 use Rattle.rules.specs.Run.{mostRecords}
 use Rattle.rules.specs.declared.Assignment.{Assignment}
@@ -27,7 +27,7 @@ use Rattle.rules.specs.declared.Mode.the-variants.{File}
 use Rattle.laws.specs.Meets.{gains, turns, allKeys, Meets}
 use Rattle.laws.specs.Fits.{Fresh, Fits, NoEnd}
 use Rattle.laws.specs.Joinable.{Apart}
-use Rattle.laws.specs.View.{Sized, headed, Good}
+use Rattle.laws.specs.View.{headed, Good}
 use Rattle.laws.proofs.Sound.{turns-join, meets-join, meets-split}
 use Rattle.laws.proofs.Frame.{frame, fitted}
 use Rattle.laws.proofs.Types.{type-by, last-is}

@@ -9,16 +9,16 @@ use Rattle.dates.specs.Windows.{windowOf}
 use Rattle.dates.specs.declared.ProcessDay.{ProcessDay}
 use Rattle.dates.specs.declared.Window.{Window}
 use Rattle.dates.specs.declared.Opening.the-variants.{Open}
+use Rattle.fields.specs.Bytes.{part}
 use Rattle.figures.specs.declared.totals.Totals.{Totals}
 use Rattle.rules.specs.Run.{recordsOf, checkOf}
-use Rattle.rules.specs.declared.Refusal.{Refusal}
 use Rattle.rules.specs.declared.Verdict.{Verdict}
-use Rattle.rules.specs.declared.Verdict.the-variants.{Accepted, Refused}
+use Rattle.rules.specs.declared.Verdict.the-variants.{Accepted}
 use Rattle.operations.specs.Ends.{end89}
 use Rattle.operations.specs.Joining.{sender, both, joinOf, joinedFile}
 use Rattle.operations.specs.Parting.{bodyOf}
 use Rattle.laws.specs.Meets.{allKeys}
-use Rattle.laws.specs.View.{figuresOf, made, Good}
+use Rattle.laws.specs.View.{figuresOf, made}
 use Rattle.laws.specs.Joinable.{In, keysOf, BothAccepted, Joinable, Framed}
 use Rattle.laws.proofs.Sound.{keys-join}
 use Rattle.laws.proofs.EndsPut.{gains-records}
@@ -38,6 +38,9 @@ module _ (w : Window) (b : List ℕ) (t : Totals) (v : View w b t) where
   pub view-keys : keysOf b ≡ allKeys (v .body)
   view-keys = ap keysOf (v .bytes) ∙ file-keys w (v .head) (v .body) (v .good)
 
+  pub view-sender : sender b ≡ part 9 16 (v .head)
+  view-sender = ap sender (v .bytes) ∙ file-sender w (v .head) (v .body) (v .good)
+
   pub view-body : bodyOf b ≡ v .body
   view-body = ap bodyOf (v .bytes) ∙ body-records w (v .head) (v .body) (v .good)
 
@@ -55,11 +58,22 @@ module _ (w : Window) (b : List ℕ) (t : Totals) (v : View w b t) where
   view-records = ap (λ (x : Totals). x .records .0) (v .figures) ∙ omega (arith, gains-records (v .body))
 
 -- ---- two files that may be joined
+-- bodies that go together, under one sender
+pub joinable : (w : Window) (a b : List ℕ) (s t : Totals) (va : View w a s) (vb : View w b t) → part 9 16 (va .head) ≡ part 9 16 (vb .head) → Together (va .body) (vb .body) → Joinable a b s t
+joinable w a b s t va vb e g =
+    record {
+      senders = view-sender w a s va ∙ e ∙ sym (view-sender w b t vb);
+      apart = λ k p q. g .apart k (subst (In k) (view-keys w a s va) p) (subst (In k) (view-keys w b t vb) q);
+      records = omega (arith, g .few, view-records w a s va, view-records w b t vb);
+      assignments = omega (arith, g .rooms, ap (λ (x : Totals). x .assignments .0) (va .figures), ap (λ (x : Totals). x .assignments .0) (vb .figures));
+      sums = omega (arith, g .sums, ap (λ (x : Totals). x .sum .0) (va .figures), ap (λ (x : Totals). x .sum .0) (vb .figures));
+    }
+
 module _ (w : Window) (a b : List ℕ) (s t : Totals) (va : View w a s) (vb : View w b t) (j : Joinable a b s t) where
   pub together : Together (va .body) (vb .body)
   together =
       record {
-        apart = λ k p q. j .apart k (subst (λ (l : List ℕ). In k l) (sym (view-keys w a s va)) p) (subst (λ (l : List ℕ). In k l) (sym (view-keys w b t vb)) q);
+        apart = λ k p q. j .apart k (subst (In k) (sym (view-keys w a s va)) p) (subst (In k) (sym (view-keys w b t vb)) q);
         few = omega (arith, j .records, view-records w a s va, view-records w b t vb);
         rooms = omega (arith, j .assignments, ap (λ (x : Totals). x .assignments .0) (va .figures), ap (λ (x : Totals). x .assignments .0) (vb .figures));
         sums = omega (arith, j .sums, ap (λ (x : Totals). x .sum .0) (va .figures), ap (λ (x : Totals). x .sum .0) (vb .figures));
@@ -83,8 +97,7 @@ module _ (w : Window) (a b : List ℕ) (s t : Totals) (va : View w a s) (vb : Vi
 
   -- the first file's sender, both files' keys
   pub joined-sender : sender (joinedFile a b (both s t)) ≡ sender a
-  joined-sender =
-      ap sender file-joined ∙ file-sender w (va .head) (va .body ++ vb .body) (joined-view .good) ∙ sym (file-sender w (va .head) (va .body) (va .good)) ∙ sym (ap sender (va .bytes))
+  joined-sender = view-sender w (joinedFile a b (both s t)) (both s t) joined-view ∙ sym (view-sender w a s va)
 
   pub joined-keys : keysOf (joinedFile a b (both s t)) ≡ keysOf a ++ keysOf b
   joined-keys =
@@ -102,7 +115,7 @@ module _ (w : Window) (a b : List ℕ) (s t : Totals) (va : View w a s) (vb : Vi
       ∙ ap (λ (rs : List (List ℕ)). take 81 a ∷ rs) (append-assoc (bodyOf a) (bodyOf b) (end89 (both s t) ∷ []))
 
 -- ---- accepted, and what that means
-module _ (day : ProcessDay) (w : Window) (a b : List ℕ) (room : ℕ) (s t : Totals) (o : windowOf day ≡ Open w) (c : BothAccepted day a b s t) where
+module _ (day : ProcessDay) (a b : List ℕ) (room : ℕ) (s t : Totals) (c : BothAccepted day a b s t) where
   -- of two accepted files
   pub record Accepting (u : Totals) : Type 0 where
     pub joinable : Joinable a b s t
@@ -110,14 +123,14 @@ module _ (day : ProcessDay) (w : Window) (a b : List ℕ) (room : ℕ) (s t : To
     pub figures : u ≡ both s t
 
   pub accepting : (u : Totals) → joinOf day a b room ≡ Accepted u → Accepting u
-  accepting u e = go (joinOf day a b room) (outcome day a b room w s t o c) e
+  accepting u e = go (joinOf day a b room) (outcome day a b room s t c) e
     where
       go : (v : Verdict) → Outcome day a b room s t v → v ≡ Accepted u → Accepting u
       go v (joins j h) e = record { joinable = j; fits = h; figures = cc }
       go v (refuses x r h) e = absurd (let z : _≡_ {A = ℕ} 0 1 = cc in omega arith)
 
   pub accepts : Joinable a b s t → 81 * both s t .records .0 ≤ room → joinOf day a b room ≡ Accepted (both s t)
-  accepts j h = go (joinOf day a b room) (outcome day a b room w s t o c)
+  accepts j h = go (joinOf day a b room) (outcome day a b room s t c)
     where
       go : (v : Verdict) → Outcome day a b room s t v → v ≡ Accepted (both s t)
       go v (joins j h) = refl

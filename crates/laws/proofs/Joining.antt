@@ -22,7 +22,7 @@ use Rattle.operations.specs.Parting.{bodyOf}
 use Rattle.laws.specs.Joinable.{BothAccepted, Joinable, NotJoinable, JoinRefusing, AddedUp, Keeps, Associative}
 use Rattle.laws.proofs.Demand2.{accepting, figures-of-records}
 use Rattle.laws.proofs.Made.{View, view}
-use Rattle.laws.proofs.Joins.{exclude, Outcome, joins, refuses, outcome, Answer, joined, not-joined, answer}
+use Rattle.laws.proofs.Joins.{exclude, Outcome, joins, refuses, outcome, Answer, joined, not-joined, answer, refuses-so}
 use Rattle.laws.proofs.Joined.{view-checks, view-length, view-framed, joined-view, joined-records}
 use Rattle.laws.proofs.Three.{associates}
 
@@ -32,7 +32,7 @@ not-both t x e = let z : _≡_ {A = ℕ} 0 1 = cc in omega arith
 -- ---- refused exactly
 module _ (day : ProcessDay) (a b : List ℕ) (s t : Totals) (room : ℕ) (e : checkOf day a ≡ Accepted s) (f : checkOf day b ≡ Accepted t) (fits : 81 * both s t .records .0 ≤ room) where
   its-outcome : Outcome day a b room s t (joinOf day a b room)
-  its-outcome = let v = accepting day a s e in outcome day a b room (v .window) s t (v .opened) record { first = e; second = f }
+  its-outcome = outcome day a b room s t record { first = e; second = f }
 
   -- two accepted files, with room enough, are refused exactly for another sender, a key in both, or a limit
   pub join-refused-exactly : ((x : Refusal) × (joinOf day a b room ≡ Refused x)) ↔ NotJoinable a b s t
@@ -59,8 +59,8 @@ module _ (day : ProcessDay) (a b : List ℕ) (s t : Totals) (room : ℕ) (e : ch
       back j v (refuses x r m) = absurd (exclude a b s t j (m fits))
 
 -- a refusal names the first reason in the stated order: the day, the first file's own, the second file's own, then those of the two together
-pub join-order : (day : ProcessDay) (a b : List ℕ) (room : ℕ) (x : Refusal) → joinOf day a b room ≡ Refused x → JoinRefusing day a b room (Refused x)
-join-order day a b room x e = go (joinOf day a b room) (answer day a b room) e
+pub join-order : (day : ProcessDay) (a b : List ℕ) (room : ℕ) (x : Refusal) → (joinOf day a b room ≡ Refused x) ↔ JoinRefusing day a b room (Refused x)
+join-order day a b room x = (go (joinOf day a b room) (answer day a b room), refuses-so day a b room (Refused x))
   where
     go : (v : Verdict) → Answer day a b room v → v ≡ Refused x → JoinRefusing day a b room (Refused x)
     go v (joined w s t o c j h) e = absurd (not-both _ x e)

@@ -3,10 +3,10 @@
 use Prim.Native.Nat.{ℕ, _+_, _*_, _≤_}
 use mathlib.Core.Path.{_≡_, refl, sym, ap, subst, _∙_}
 use mathlib.Core.List.{List}
-use mathlib.Core.Bool.{Bool, true, false, false≢true, true≢false}
+use mathlib.Core.Bool.{Bool, true, false, true≢false}
 use native.Mathlib.Omega.{arith}
 use native.Mathlib.Nat.{zero-add}
-use borrow.Author.Tests.{leb-true, leb-false}
+use borrow.Author.Tests.{leb-true, leb-false, le-leb, lt-leb}
 use lib.Dec.{leb}
 use Rattle.choice.specs.Choice.{if_then_else_}
 use Rattle.dates.specs.Windows.{windowOf}
@@ -25,7 +25,8 @@ use Rattle.rules.specs.declared.Verdict.{Verdict}
 use Rattle.rules.specs.declared.Verdict.the-variants.{Accepted, Refused}
 use Rattle.operations.specs.Joining.{sender, both, shares, sharedAt, joining, ofOperand, joinOf}
 use Rattle.laws.specs.Joinable.{keysOf, BothAccepted, Joinable, NotJoinable, senders-differ, key-in-both, records-passed, assignments-passed, sum-passed, JoinRefusing, no-day, first-file, second-file, other-sender, shared-key, many-records, many-assignments, large-sum, short-output}
-use Rattle.laws.proofs.Keys.{shared, not-shared, first-shared}
+use Rattle.laws.proofs.Demand2.{accepting}
+use Rattle.laws.proofs.Keys.{shared, not-shared, shares-none, first-shared, told-place, told-shared}
 
 -- both at once cannot be
 pub exclude : (a b : List ℕ) (s t : Totals) → Joinable a b s t → NotJoinable a b s t → ⊥
@@ -35,46 +36,60 @@ exclude a b s t j (records-passed p) = omega (arith, j .records)
 exclude a b s t j (assignments-passed p) = omega (arith, j .assignments)
 exclude a b s t j (sum-passed p) = omega (arith, j .sums)
 
--- ---- two accepted files
+-- ---- two accepted files: the tests in the stated order
+module _ (a b : List ℕ) (room : ℕ) (s t : Totals) where
+  abbrev tested : Bool → Bool → Bool → Bool → Bool → Bool → Verdict
+  tested p q r n m l =
+      if p then
+      (if q then refused 15 2 (sharedAt 0 (keysOf a) (recordsOf b)) 6
+      else (if r then (if n then (if m then (if l then Accepted (both s t) else refused 19 0 0 0) else refused 13 0 0 0) else refused 16 0 0 0) else refused 3 0 0 0))
+      else refused 20 2 1 5
+
+  -- what each of them gives
+  record Tests (p q r n m l : Bool) : Type 0 where
+    senders : same (sender a) (sender b) ≡ p
+    keys : shares (keysOf a) (keysOf b) ≡ q
+    records : leb (both s t .records .0) mostRecords ≡ r
+    assignments : leb (both s t .assignments .0) mostAssignments ≡ n
+    sums : within (s .sum) (t .sum) limitWide ≡ m
+    fits : leb (81 * both s t .records .0) room ≡ l
+
+  joining-is : (p q r n m l : Bool) → Tests p q r n m l → joining a b room s t ≡ tested p q r n m l
+  unfolding joining
+  joining-is p q r n m l e = λ i. tested (e .senders i) (e .keys i) (e .records i) (e .assignments i) (e .sums i) (e .fits i)
+
 module _ (day : ProcessDay) (a b : List ℕ) (room : ℕ) (s t : Totals) where
   pub data Outcome : Verdict → Type 0 where
     joins : Joinable a b s t → 81 * both s t .records .0 ≤ room → Outcome (Accepted (both s t))
     refuses : (x : Refusal) → JoinRefusing day a b room (Refused x) → (81 * both s t .records .0 ≤ room → NotJoinable a b s t) → Outcome (Refused x)
 
-  -- the tests in the stated order
   joining-outcome : BothAccepted day a b s t → Outcome (joining a b room s t)
-  unfolding joining within
+  unfolding within
   joining-outcome c =
-      go (same (sender a) (sender b)) (shares (keysOf a) (keysOf b)) (leb (both s t .records .0) mostRecords) (leb (both s t .assignments .0) mostAssignments)
-      (within (s .sum) (t .sum) limitWide) (leb (81 * both s t .records .0) room) refl refl refl refl refl refl
+      let e : Tests a b room s t _ _ _ _ _ _ = record { senders = refl; keys = refl; records = refl; assignments = refl; sums = refl; fits = refl } in
+      subst Outcome (sym (joining-is a b room s t _ _ _ _ _ _ e)) (go _ _ _ _ _ _ e)
     where
-      go : (p q r n m l : Bool) → same (sender a) (sender b) ≡ p → shares (keysOf a) (keysOf b) ≡ q → leb (both s t .records .0) mostRecords ≡ r
-          → leb (both s t .assignments .0) mostAssignments ≡ n → within (s .sum) (t .sum) limitWide ≡ m → leb (81 * both s t .records .0) room ≡ l
-          → Outcome
-          (if p then
-          (if q then refused 15 2 (sharedAt 0 (keysOf a) (recordsOf b)) 6
-          else (if r then (if n then (if m then (if l then Accepted (both s t) else refused 19 0 0 0) else refused 13 0 0 0) else refused 16 0 0 0) else refused 3 0 0 0))
-          else refused 20 2 1 5)
-      go false q r n m l e1 e2 e3 e4 e5 e6 =
-          let d : sender a ≡ sender b → ⊥ = λ x. true≢false (sym (same-self (sender a)) ∙ ap (same (sender a)) x ∙ e1) in
+      go : (p q r n m l : Bool) → Tests a b room s t p q r n m l → Outcome (tested a b room s t p q r n m l)
+      go false q r n m l e =
+          let d : sender a ≡ sender b → ⊥ = λ x. true≢false (sym (same-self (sender a)) ∙ ap (same (sender a)) x ∙ e .senders) in
           refuses _ (other-sender s t c d) (λ h. senders-differ d)
-      go true true r n m l e1 e2 e3 e4 e5 e6 =
-          let v = first-shared (keysOf a) 0 (recordsOf b) e2 in
-          let k = shared (keysOf a) (keysOf b) e2 in
+      go true true r n m l e =
+          let v = first-shared (keysOf a) 0 (recordsOf b) (e .keys) in
+          let k = shared (keysOf a) (keysOf b) (e .keys) in
           let i : sharedAt 0 (keysOf a) (recordsOf b) ≡ v .place + 1 = v .told ∙ ap (λ (x : ℕ). x + 1) (zero-add (v .place)) in
-          refuses _ (subst (λ (x : ℕ). JoinRefusing day a b room (refused 15 2 x 6)) (sym i) (shared-key s t (v .place) c (same-is _ _ e1) (v .found)))
+          refuses _ (subst (λ (x : ℕ). JoinRefusing day a b room (refused 15 2 x 6)) (sym i) (shared-key s t (v .place) c (same-is _ _ (e .senders)) (v .found)))
           (λ h. key-in-both (k .key) (k .first) (k .second))
-      go true false false n m l e1 e2 e3 e4 e5 e6 =
-          let p = leb-false _ _ e3 in
-          refuses _ (many-records s t c (same-is _ _ e1) (not-shared _ _ e2) p) (λ h. records-passed p)
-      go true false true false m l e1 e2 e3 e4 e5 e6 =
-          let p = leb-false _ _ e4 in
-          refuses _ (many-assignments s t c (same-is _ _ e1) (not-shared _ _ e2) (leb-true _ _ e3) p) (λ h. assignments-passed p)
-      go true false true true false l e1 e2 e3 e4 e5 e6 =
-          let p = leb-false _ _ e5 in
-          refuses _ (large-sum s t c (same-is _ _ e1) (not-shared _ _ e2) (leb-true _ _ e3) (leb-true _ _ e4) p) (λ h. sum-passed p)
-      go true false true true true l e1 e2 e3 e4 e5 e6 =
-          last l e6 record { senders = same-is _ _ e1; apart = not-shared _ _ e2; records = leb-true _ _ e3; assignments = leb-true _ _ e4; sums = leb-true _ _ e5 }
+      go true false false n m l e =
+          let p = leb-false _ _ (e .records) in
+          refuses _ (many-records s t c (same-is _ _ (e .senders)) (not-shared _ _ (e .keys)) p) (λ h. records-passed p)
+      go true false true false m l e =
+          let p = leb-false _ _ (e .assignments) in
+          refuses _ (many-assignments s t c (same-is _ _ (e .senders)) (not-shared _ _ (e .keys)) (leb-true _ _ (e .records)) p) (λ h. assignments-passed p)
+      go true false true true false l e =
+          let p = leb-false _ _ (e .sums) in
+          refuses _ (large-sum s t c (same-is _ _ (e .senders)) (not-shared _ _ (e .keys)) (leb-true _ _ (e .records)) (leb-true _ _ (e .assignments)) p) (λ h. sum-passed p)
+      go true false true true true l e =
+          last l (e .fits) record { senders = same-is _ _ (e .senders); apart = not-shared _ _ (e .keys); records = leb-true _ _ (e .records); assignments = leb-true _ _ (e .assignments); sums = leb-true _ _ (e .sums) }
         where
           last : (l : Bool) → leb (81 * both s t .records .0) room ≡ l → Joinable a b s t → Outcome (if l then Accepted (both s t) else refused 19 0 0 0)
           last true e j = joins j (leb-true _ _ e)
@@ -89,15 +104,18 @@ module _ (day : ProcessDay) (a b : List ℕ) (room : ℕ) where
   abbrev with-first : Verdict → Verdict → Verdict
   with-first x y = ofOperand 1 x (λ s. ofOperand 2 y (λ t. joining a b room s t))
 
-  -- both accepted
-  pub outcome : (w : Window) (s t : Totals) → windowOf day ≡ Open w → BothAccepted day a b s t → Outcome day a b room s t (joinOf day a b room)
+  -- the first file is judged before the second
+  join-is : (w : Window) → windowOf day ≡ Open w → joinOf day a b room ≡ with-first (checkOf day a) (checkOf day b)
   unfolding joinOf
-  outcome w s t o c =
-      let e : joinOf day a b room ≡ joining a b room s t =
+  join-is w o =
       ap (λ (x : Opening). onWindow x (λ w. with-first (judge w a) (judge w b))) o
-      ∙ ap (λ (x : Verdict). with-first x (judge w b)) (sym (checked day a (Open w) o) ∙ c .first)
-      ∙ ap (with-first (Accepted s)) (sym (checked day b (Open w) o) ∙ c .second) in
-      subst (Outcome day a b room s t) (sym e) (joining-outcome day a b room s t c)
+      ∙ (λ i. with-first (sym (checked day a (Open w) o) i) (sym (checked day b (Open w) o) i))
+
+  join-both : (s t : Totals) → BothAccepted day a b s t → joinOf day a b room ≡ joining a b room s t
+  join-both s t c = let v = accepting day a s (c .first) in join-is (v .window) (v .opened) ∙ (λ i. with-first (c .first i) (c .second i))
+
+  pub outcome : (s t : Totals) → BothAccepted day a b s t → Outcome day a b room s t (joinOf day a b room)
+  outcome s t c = subst (Outcome day a b room s t) (sym (join-both s t c)) (joining-outcome day a b room s t c)
 
   -- in every case
   pub data Answer : Verdict → Type 0 where
@@ -125,3 +143,47 @@ module _ (day : ProcessDay) (a b : List ℕ) (room : ℕ) where
       go : (o : Opening) → windowOf day ≡ o → Answer (onWindow o (λ w. with-first (judge w a) (judge w b)))
       go (Open w) p = first w (judge w a) p (checked day a (Open w) p)
       go NoDay p = not-joined _ (no-day p)
+
+-- ---- each reason has its answer
+differ : (x y : List ℕ) → (x ≡ y → ⊥) → same x y ≡ false
+differ x y n = go (same x y) refl
+  where
+    go : (p : Bool) → same x y ≡ p → p ≡ false
+    go true e = absurd (n (same-is x y e))
+    go false e = refl
+
+agree : (x y : List ℕ) → x ≡ y → same x y ≡ true
+agree x y e = ap (same x) (sym e) ∙ same-self x
+
+module _ (day : ProcessDay) (a b : List ℕ) (room : ℕ) where
+  pub refuses-so : (v : Verdict) → JoinRefusing day a b room v → joinOf day a b room ≡ v
+  unfolding joinOf within
+  refuses-so v (no-day p) = ap (λ (x : Opening). onWindow x (λ w. with-first day a b room (judge w a) (judge w b))) p
+  refuses-so v (first-file w x o e) = join-is day a b room w o ∙ ap (λ (y : Verdict). with-first day a b room y (checkOf day b)) e
+  refuses-so v (second-file w s x o e f) = join-is day a b room w o ∙ (λ i. with-first day a b room (e i) (f i))
+  refuses-so v (other-sender s t c d) =
+      join-both day a b room s t c
+      ∙ joining-is a b room s t _ _ _ _ _ _ record { senders = differ _ _ d; keys = refl; records = refl; assignments = refl; sums = refl; fits = refl }
+  refuses-so v (shared-key s t i c e f) =
+      join-both day a b room s t c
+      ∙ joining-is a b room s t _ _ _ _ _ _ record { senders = agree _ _ e; keys = told-shared _ _ i f; records = refl; assignments = refl; sums = refl; fits = refl }
+      ∙ ap (λ (n : ℕ). refused 15 2 n 6) (told-place _ _ i f)
+  refuses-so v (many-records s t c e n p) =
+      join-both day a b room s t c
+      ∙ joining-is a b room s t _ _ _ _ _ _ record { senders = agree _ _ e; keys = shares-none _ _ n; records = lt-leb _ _ p; assignments = refl; sums = refl; fits = refl }
+  refuses-so v (many-assignments s t c e n p q) =
+      join-both day a b room s t c
+      ∙ joining-is a b room s t _ _ _ _ _ _ record { senders = agree _ _ e; keys = shares-none _ _ n; records = le-leb _ _ p; assignments = lt-leb _ _ q; sums = refl; fits = refl }
+  refuses-so v (large-sum s t c e n p q r) =
+      join-both day a b room s t c
+      ∙ joining-is a b room s t _ _ _ _ _ _ record { senders = agree _ _ e; keys = shares-none _ _ n; records = le-leb _ _ p; assignments = le-leb _ _ q; sums = lt-leb _ _ r; fits = refl }
+  refuses-so v (short-output s t c j p) =
+      join-both day a b room s t c
+      ∙ joining-is a b room s t _ _ _ _ _ _ record {
+        senders = agree _ _ (j .senders);
+        keys = shares-none _ _ (j .apart);
+        records = le-leb _ _ (j .records);
+        assignments = le-leb _ _ (j .assignments);
+        sums = le-leb _ _ (j .sums);
+        fits = lt-leb _ _ p;
+      }

@@ -1,21 +1,21 @@
 -- Keys in lists: the tests say what is in a list, what two lists share, and where it first stands; keys new to a list and to one another.
 -- Assumes nothing.
-use Prim.Native.Nat.{ℕ, suc, _+_}
+use Prim.Native.Nat.{ℕ, _+_}
 use mathlib.Core.Path.{_≡_, refl, sym, ap, subst, _∙_}
 use mathlib.Core.Logic.{_⊎_, inl, inr, ⊎-elim}
-use mathlib.Core.List.{List, [], _∷_, _++_, append-nil, append-assoc}
+use mathlib.Core.List.{List, [], _∷_, _++_, append-assoc}
 use mathlib.Core.Bool.{Bool, true, false, _||_, false≢true, true≢false}
 use native.Mathlib.Omega.{arith}
-use borrow.Author.Tests.{eqb-true, eqb-false, eq-eqb}
+use borrow.Author.Tests.{eqb-true, eq-eqb}
 use lib.Dec.{eqb}
 use lib.ListN.{length}
-use Rattle.choice.specs.Choice.{if_then_else_}
 use Rattle.layout.specs.Rows.{member}
 use Rattle.rules.specs.Growth.{keys}
 use Rattle.operations.specs.Joining.{shares, sharedAt}
 use Rattle.laws.specs.Meets.{allKeys}
 use Rattle.laws.specs.Fits.{Fresh}
 use Rattle.laws.specs.Joinable.{In, Apart, FirstShared}
+use Rattle.laws.proofs.Sound.{keys-join}
 
 -- ---- what is in a list
 pub in-join : (k : ℕ) (xs ys : List ℕ) → In k (xs ++ ys) → In k xs ⊎ In k ys
@@ -92,6 +92,19 @@ not-shared ks [] e j i i′ = i′
 not-shared ks (k ∷ l) e j i (inl p) = absent k ks (or-neither (member k ks) (shares ks l) e .0) (subst (λ (x : ℕ). In x ks) p i)
 not-shared ks (k ∷ l) e j i (inr q) = not-shared ks l (or-neither (member k ks) (shares ks l) e .1) j i q
 
+pub shares-it : (k : ℕ) (ks l : List ℕ) → In k ks → In k l → shares ks l ≡ true
+unfolding shares In
+shares-it k ks [] i j = absurd j
+shares-it k ks (x ∷ l) i (inl e) = rw (finds x ks (subst (λ (n : ℕ). In n ks) e i))
+shares-it k ks (x ∷ l) i (inr j) = or-true (member x ks) (shares ks l) (shares-it k ks l i j)
+
+pub shares-none : (ks l : List ℕ) → Apart ks l → shares ks l ≡ false
+shares-none ks l h = go (shares ks l) refl
+  where
+    go : (b : Bool) → shares ks l ≡ b → b ≡ false
+    go true e = let v = shared ks l e in absurd (h (v .key) (v .first) (v .second))
+    go false e = refl
+
 -- ---- the first record that brings a key of a list
 shares-join : (ks xs ys : List ℕ) → shares ks xs ≡ false → shares ks (xs ++ ys) ≡ true → shares ks ys ≡ true
 unfolding shares
@@ -146,6 +159,28 @@ first-shared ks i (r ∷ rs) e = go (shares ks (keys r)) refl (λ p. first-share
     go : (b : Bool) → shares ks (keys r) ≡ b → (shares ks (allKeys rs) ≡ true → FoundAt ks (i + 1) rs) → FoundAt ks i (r ∷ rs)
     go true p ih = found-here ks i r rs p
     go false p ih = found-later ks i r rs p (ih (shares-join ks (keys r) (allKeys rs) p e))
+
+-- and there is no other
+at-place : (ks : List ℕ) (i k : ℕ) (before : List (List ℕ)) (r : List ℕ) (behind : List (List ℕ)) → Apart ks (allKeys before) → In k ks → In k (keys r)
+    → sharedAt i ks (before ++ (r ∷ behind)) ≡ i + length before + 1
+unfolding sharedAt allKeys
+at-place ks i k [] r behind n x y = rw (shares-it k ks (keys r) x y) (omega arith)
+at-place ks i k (q ∷ before) r behind n x y =
+    let new = shares-none ks (keys q) (λ j p o. n j p (in-left j (keys q) (allKeys before) o)) in
+    let rest = at-place ks (i + 1) k before r behind (λ j p o. n j p (in-right j (keys q) (allKeys before) o)) x y in
+    rw new (omega (arith, rest))
+
+pub told-place : (ks : List ℕ) (rs : List (List ℕ)) (i : ℕ) → FirstShared ks rs i → sharedAt 0 ks rs ≡ i + 1
+told-place ks rs i f =
+    let e = at-place ks 0 (f .key) (f .before) (f .here) (f .behind) (f .none) (f .there) (f .brought) in
+    ap (sharedAt 0 ks) (f .whole) ∙ omega (arith, e, f .place)
+
+pub told-shared : (ks : List ℕ) (rs : List (List ℕ)) (i : ℕ) → FirstShared ks rs i → shares ks (allKeys rs) ≡ true
+unfolding allKeys
+told-shared ks rs i f =
+    let here : In (f .key) (allKeys (f .before ++ (f .here ∷ f .behind))) =
+    rw (keys-join (f .before) (f .here ∷ f .behind)) (in-right (f .key) (allKeys (f .before)) (allKeys (f .here ∷ f .behind)) (in-left (f .key) (keys (f .here)) (allKeys (f .behind)) (f .brought))) in
+    shares-it (f .key) ks (allKeys rs) (f .there) (subst (λ (x : List (List ℕ)). In (f .key) (allKeys x)) (sym (f .whole)) here)
 
 -- ---- keys new to a list and to one another
 pub fresh-behind : (ks m l : List ℕ) → Apart ks l → Fresh m l → Fresh (ks ++ m) l

@@ -19,3 +19,6 @@ pub mod Joins
 pub mod Joined
 pub mod Three
 pub mod Joining
+pub mod Cuts
+pub mod Parting
+pub mod OneAnswer

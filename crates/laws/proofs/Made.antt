@@ -11,17 +11,14 @@ use Rattle.dates.specs.declared.ProcessDay.{ProcessDay}
 use Rattle.dates.specs.declared.Window.{Window}
 use Rattle.dates.specs.declared.Opening.the-variants.{Open}
 use Rattle.dates.specs.Dates.{earlier}
-use Rattle.dates.specs.declared.Date.{Date}
 use Rattle.dates.proofs.Laws.{earlier-none, none-earlier}
 use Rattle.fields.specs.Bytes.{part}
 use Rattle.figures.specs.Figures.{amount, count}
 use Rattle.figures.specs.Totals.{_⊕_, oneRecord}
 use Rattle.figures.specs.declared.totals.Totals.{Totals}
-use Rattle.rules.specs.Growth.{keysFor, keys}
-use Rattle.rules.specs.Codes.{kindOf}
+use Rattle.rules.specs.Growth.{keysFor}
 use Rattle.rules.specs.Run.{recordsOf, checkOf}
 use Rattle.rules.specs.declared.Kind.{Kind}
-use Rattle.rules.specs.declared.Kind.the-variants.{R10}
 use Rattle.rules.specs.declared.Verdict.the-variants.{Accepted}
 use Rattle.operations.specs.Ends.{end89}
 use Rattle.operations.specs.Closing.{bytesOf}

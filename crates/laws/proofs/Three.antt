@@ -3,7 +3,7 @@
 use Prim.Native.Nat.{ℕ, _+_, _*_, _≤_}
 use mathlib.Core.Path.{_≡_, sym, ap, subst, _∙_}
 use mathlib.Core.Logic.{⊎-elim}
-use mathlib.Core.List.{List, _++_, append-assoc}
+use mathlib.Core.List.{List, append-assoc}
 use native.Mathlib.Omega.{arith}
 use lib.ListN.{length}
 use Rattle.dates.specs.Windows.{windowOf}
@@ -18,7 +18,7 @@ use Rattle.laws.specs.View.{figuresOf}
 use Rattle.laws.specs.Joinable.{In, keysOf, Joinable, FirstTwo, LastTwo, Associative}
 use Rattle.laws.proofs.Keys.{in-join, in-left, in-right}
 use Rattle.laws.proofs.Made.{fileOf, View}
-use Rattle.laws.proofs.Joined.{view-checks, view-length, view-records, file-joined, figures-joined, joined-view, joined-sender, joined-keys, Accepting, accepting, accepts}
+use Rattle.laws.proofs.Joined.{view-checks, view-length, view-records, file-joined, figures-joined, joined-view, joined-sender, joined-keys, accepting, accepts}
 
 module _ (w : Window) (a b c : List ℕ) (s t r : Totals) (va : View w a s) (vb : View w b t) (vc : View w c r) where
   -- what lets the first two be joined, and then the third
@@ -133,32 +133,32 @@ module _ (day : ProcessDay) (w : Window) (a b c : List ℕ) (s t r : Totals) (ro
 
   first-told : (u : Totals) (l : FirstTwo day a b c room u) → FirstTold (l .inner) u
   first-told u l =
-      let x = accepting day w a b room s t o record { first = accepted-a; second = accepted-b } (l .inner) (l .one) in
+      let x = accepting day a b room s t record { first = accepted-a; second = accepted-b } (l .inner) (l .one) in
       let two = subst (λ (i : Totals). joinOf day (joinedFile a b i) c room ≡ Accepted u) (x .figures) (l .two) in
-      let y = accepting day w (joinedFile a b (both s t)) c room (both s t) r o record { first = accepted-ab (x .joinable); second = accepted-c } u two in
+      let y = accepting day (joinedFile a b (both s t)) c room (both s t) r record { first = accepted-ab (x .joinable); second = accepted-c } u two in
       record { left = record { inner = x .joinable; outer = y .joinable }; inner-is = x .figures; outer-is = y .figures }
 
   last-told : (u : Totals) (l : LastTwo day a b c room u) → LastTold (l .inner) u
   last-told u l =
-      let x = accepting day w b c room t r o record { first = accepted-b; second = accepted-c } (l .inner) (l .one) in
+      let x = accepting day b c room t r record { first = accepted-b; second = accepted-c } (l .inner) (l .one) in
       let two = subst (λ (i : Totals). joinOf day a (joinedFile b c i) room ≡ Accepted u) (x .figures) (l .two) in
-      let y = accepting day w a (joinedFile b c (both t r)) room s (both t r) o record { first = accepted-a; second = accepted-bc (x .joinable) } u two in
+      let y = accepting day a (joinedFile b c (both t r)) room s (both t r) record { first = accepted-a; second = accepted-bc (x .joinable) } u two in
       record { right = record { inner = x .joinable; outer = y .joinable }; inner-is = x .figures; outer-is = y .figures }
 
   first-two : Left w a b c s t r va vb vc → FirstTwo day a b c room (both (both s t) r)
   first-two l =
       record {
         inner = both s t;
-        one = accepts day w a b room s t o record { first = accepted-a; second = accepted-b } (l .inner) (omega (arith, room-all));
-        two = accepts day w (joinedFile a b (both s t)) c room (both s t) r o record { first = accepted-ab (l .inner); second = accepted-c } (l .outer) (omega (arith, room-all));
+        one = accepts day a b room s t record { first = accepted-a; second = accepted-b } (l .inner) (omega (arith, room-all));
+        two = accepts day (joinedFile a b (both s t)) c room (both s t) r record { first = accepted-ab (l .inner); second = accepted-c } (l .outer) (omega (arith, room-all));
       }
 
   last-two : Right w a b c s t r va vb vc → LastTwo day a b c room (both s (both t r))
   last-two l =
       record {
         inner = both t r;
-        one = accepts day w b c room t r o record { first = accepted-b; second = accepted-c } (l .inner) (omega (arith, room-all));
-        two = accepts day w a (joinedFile b c (both t r)) room s (both t r) o record { first = accepted-a; second = accepted-bc (l .inner) } (l .outer) (omega (arith, room-all));
+        one = accepts day b c room t r record { first = accepted-b; second = accepted-c } (l .inner) (omega (arith, room-all));
+        two = accepts day a (joinedFile b c (both t r)) room s (both t r) record { first = accepted-a; second = accepted-bc (l .inner) } (l .outer) (omega (arith, room-all));
       }
 
   pub associates : Associative day a b c room

@@ -4,3 +4,5 @@ pub mod Fits
 pub mod Stripped
 pub mod View
 pub mod Joinable
+pub mod Partable
+pub mod Promises
