@@ -63,7 +63,7 @@ pub fn key_of(r: &[u8]) -> u64
 }
 
 // The key stands among the first `used`. No early exit: the loop becomes vector code.
-fn seen(keys: &[u64], used: usize, key: u64) -> bool
+pub fn seen(keys: &[u64], used: usize, key: u64) -> bool
     requires { ⌜ used ≤ length (now keys) ⌝ }
     ensures { λ x. ⌜ x ≡ member key (take used (now (keys .entry))) ⌝ }
 {
