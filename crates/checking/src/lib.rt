@@ -37,5 +37,6 @@ pub fn check(day: ProcessDay, file: &[u8]) -> Verdict
     if 200000 < len / 81 {
         return refuse(3);
     }
-    running::run_over(Mode::File, w, file)
+    let mut kept = [0u64; 500];
+    running::run_over(Mode::File, w, file, &mut kept)
 }

@@ -25,7 +25,7 @@ use Rattle.layout.specs.declared.Finding.the-variants.{Sound, Fault}
 use Rattle.layout.proofs.Laws.{next, stop, ended, all-of-sound}
 use Rattle.rules.specs.Order.{mayEnd}
 use Rattle.rules.specs.Layouts.{rows}
-use Rattle.rules.specs.Growth.{gain, turn, keys, after, start}
+use Rattle.rules.specs.Growth.{gain, turn, keys, after, start, allKeys}
 use Rattle.rules.specs.Run as R
 use Rattle.rules.specs.Run.{refused, stepped, stepOf, atEnd, onStep, run, recordsOf, badLength, mostRecords, judge, onWindow, checkOf}
 use Rattle.rules.specs.declared.Assignment.{Assignment}
@@ -35,7 +35,7 @@ use Rattle.rules.specs.declared.Refusal.{Refusal}
 use Rattle.rules.specs.declared.State.{State}
 use Rattle.rules.specs.declared.Verdict.{Verdict}
 use Rattle.rules.specs.declared.Verdict.the-variants.{Accepted, Refused}
-use Rattle.laws.specs.Meets.{gains, turns, allKeys, Meets, FirstFault, Refusing, wrong-day, wrong-length, too-many, at-record, at-end}
+use Rattle.laws.specs.Meets.{gains, turns, Meets, FirstFault, Refusing, wrong-day, wrong-length, too-many, at-record, at-end}
 
 sound-not-fault : (n k : ℕ) → Sound ≡ Fault n k → ⊥
 sound-not-fault n k e = let z : _≡_ {A = ℕ} 0 1 = cc in omega arith

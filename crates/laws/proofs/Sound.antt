@@ -17,7 +17,7 @@ use Rattle.layout.specs.declared.Finding.the-variants.{Sound, Fault}
 use Rattle.layout.proofs.Laws.{next, stop, sound-of-all, all-of-sound}
 use Rattle.rules.specs.Order.{mayEnd}
 use Rattle.rules.specs.Layouts.{rows}
-use Rattle.rules.specs.Growth.{gain, turn, keys, after, start}
+use Rattle.rules.specs.Growth.{gain, turn, keys, after, start, allKeys}
 use Rattle.rules.specs.Run.{refused, stepped, stepOf, ended, atEnd, onStep, run}
 use Rattle.rules.specs.declared.Assignment.{Assignment}
 use Rattle.rules.specs.declared.Mode.{Mode}
@@ -27,7 +27,7 @@ use Rattle.rules.specs.declared.Step.{Step}
 use Rattle.rules.specs.declared.Step.the-variants.{Next, Stop}
 use Rattle.rules.specs.declared.Verdict.{Verdict}
 use Rattle.rules.specs.declared.Verdict.the-variants.{Accepted, Refused}
-use Rattle.laws.specs.Meets.{gains, turns, allKeys, Meets, Ends}
+use Rattle.laws.specs.Meets.{gains, turns, Meets, Ends}
 
 -- ---- what lists of records add, over joined lists
 pub gains-join : (xs ys : List (List ℕ)) → gains (xs ++ ys) ≡ gains xs ⊕ gains ys

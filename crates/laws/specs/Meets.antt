@@ -14,14 +14,14 @@ use Rattle.figures.specs.declared.totals.Totals.{Totals}
 use Rattle.layout.specs.Rows.{Row, passes, AllHold, rowNumber, rowField}
 use Rattle.rules.specs.Order.{mayEnd}
 use Rattle.rules.specs.Layouts.{rows}
-use Rattle.rules.specs.Growth.{gain, turn, keys, start}
+use Rattle.rules.specs.Growth.{gain, turn, keys, allKeys, start}
 use Rattle.rules.specs.Run.{refused, ended, recordsOf, badLength, mostRecords}
 use Rattle.rules.specs.declared.Assignment.{Assignment}
 use Rattle.rules.specs.declared.Mode.{Mode}
 use Rattle.rules.specs.declared.Mode.the-variants.{File}
 use Rattle.rules.specs.declared.Verdict.{Verdict}
 
--- what a list of records adds to the file, makes of the assignment at hand, and brings in keys
+-- what a list of records adds to the file, and makes of the assignment at hand
 unfoldable pub gains : List (List ℕ) → Totals
 gains [] = none
 gains (r ∷ rs) = gain r ⊕ gains rs
@@ -29,10 +29,6 @@ gains (r ∷ rs) = gain r ⊕ gains rs
 unfoldable pub turns : Assignment → List (List ℕ) → Assignment
 turns a [] = a
 turns a (r ∷ rs) = turns (turn r a) rs
-
-unfoldable pub allKeys : List (List ℕ) → List ℕ
-allKeys [] = []
-allKeys (r ∷ rs) = keys r ++ allKeys rs
 
 -- every row of every record holds, each in the state that the records before it left
 unfoldable pub Meets : Mode → Window → Totals → List ℕ → Assignment → List (List ℕ) → Type 0

@@ -36,7 +36,8 @@ fn kind_for(code: u8) -> Kind
     }
 }
 
-fn number_of(kind: Kind) -> u8
+// The number that a record of this type bears in field 4.
+pub fn number_of(kind: Kind) -> u8
     ensures { λ x. ⌜ x ≡ numberOfKind kind ⌝ }
 {
     match kind {

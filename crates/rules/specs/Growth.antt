@@ -1,7 +1,7 @@
 -- Document 01, "What may follow": what a record adds to the file, what it makes of the assignment at hand, and the key that it brings.
 -- Assumes nothing.
 use Prim.Native.Nat.{ℕ}
-use mathlib.Core.List.{List, [], _∷_}
+use mathlib.Core.List.{List, [], _∷_, _++_}
 use lib.Dec.{eqb}
 use Rattle.choice.specs.Choice.{if_then_else_}
 use Rattle.fields.specs.Bytes.{part}
@@ -112,6 +112,11 @@ turn r a = turnFor (kindOf r) r a
 
 abbrev pub keys : List ℕ → List ℕ
 keys r = keysFor (kindOf r) r
+
+-- the keys of a list of records, in their order
+unfoldable pub allKeys : List (List ℕ) → List ℕ
+allKeys [] = []
+allKeys (r ∷ rs) = keys r ++ allKeys rs
 
 abbrev pub afterFor : Kind → State → List ℕ → State
 afterFor k st r = record { file = st .file ⊕ gainFor k r; assignment = turnFor k r (st .assignment) }

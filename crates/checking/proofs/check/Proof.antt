@@ -53,14 +53,18 @@ returns-4 c =
     let a = p .before .before .before .before .args in
     c .refuse4 .ensures ∙ too-many _ (a .file .now) (c .before .before .before .if1 .left) (c .before .before .if2 .left) (c .before .if3 .taken) ∙ on-day (a .day) (a .file .now) _ (p .before .before .window .ensures) _ (p .w .given .1)
 
+slice-aggregate-run-over : tie.Need-slice-aggregate-run-over
+slice-aggregate-run-over c = search needs
+
 run-over-requires : tie.Need-run-over-requires
 run-over-requires c κs = search needs
 
 returns-5 : tie.Need-returns-5
 returns-5 c =
-    let p = c .before .before .before .before .before in
+    let q = c .before .before .before in
+    let p = q .before .before .before .before in
     let a = p .before .before .before .before .args in
-    c .run-over .ensures ∙ in-turn _ (a .file .now) (c .before .before .before .if1 .left) (c .before .before .if2 .left) (c .before .if3 .left) ∙ on-day (a .day) (a .file .now) _ (p .before .before .window .ensures) _ (p .w .given .1)
+    c .before .run-over .ensures .verdict ∙ in-turn _ (a .file .now) (q .before .before .if1 .left) (q .before .if2 .left) (q .if3 .left) ∙ on-day (a .day) (a .file .now) _ (p .before .before .window .ensures) _ (p .w .given .1)
 
 pub check-spec : {M : Type 1} → statement M
 check-spec =
@@ -77,5 +81,6 @@ check-spec =
     returns-3
     refuse-requires-4
     returns-4
+    slice-aggregate-run-over
     run-over-requires
     returns-5)
