@@ -12,7 +12,6 @@ ghost use Rattle.rules.specs.Codes.{keyIn};
 ghost use Rattle.rules.specs.Layouts.{record10, record20};
 ghost use Rattle.starts.specs.Stages.{opens, head20, newKey, account20};
 use fields::accounts::Account;
-use fields::classes::Class;
 use fields::digits::Digits;
 use figures::totals::Totals;
 use layout::Finding;
@@ -37,7 +36,7 @@ pub fn check10(r: &[u8]) -> Finding
         .or_else(digits_at(r, 9, 16, 5))
         .or_else(digits_at(r, 17, 23, 6))
         .demand(fields::places::same_at(r, 24, 31, b"00008080"), 7, 7)
-        .demand(fields::places::all_at(Class::Zero, r, 32, 80), 7, 8)
+        .demand(fields::places::zeros_from(r, 32), 7, 8)
 }
 
 // An agreement and an assignment number as one key.
@@ -136,5 +135,5 @@ pub fn check20(r: &[u8], a: Assignment, file: Totals, keys: &[u64], used: usize)
         .or_else(fixed20(r))
         .or_else(new_key(r, keys, used))
         .or_else(account(r))
-        .demand(fields::places::all_at(Class::Zero, r, 36, 80), 7, 8)
+        .demand(fields::places::zeros_from(r, 36), 7, 8)
 }
