@@ -1,0 +1,71 @@
+use borrow.Author.Needs.{needs}
+use Rattle.joining.proofs.weigh.Statement.{statement}
+use Rattle.joining.proofs.weigh.Tie as tie
+use Rattle.joining.proofs.weigh.Reads as reads
+use Rattle.joining.proofs.weigh.Lts as lts
+use Rattle.checking.proofs.judge.Reads as judge-reads
+use Rattle.checking.proofs.refuse.Reads as refuse-reads
+use Rattle.dates.proofs.ProcessDay.window.Reads as window-reads
+use Rattle.joining.proofs.of_operand.Reads as of-operand-reads
+use Rattle.joining.proofs.weigh_second.Reads as weigh-second-reads
+
+window-requires : tie.Need-window-requires
+window-requires c κs = search needs
+
+enum-known-w : tie.Need-enum-known-w
+enum-known-w c = search needs
+
+enum-told : tie.Need-enum-told
+enum-told c = search needs
+
+refuse-requires : tie.Need-refuse-requires
+refuse-requires c κs = search needs
+
+returns : tie.Need-returns
+returns c = ?
+
+slice-aggregate-judge : tie.Need-slice-aggregate-judge
+slice-aggregate-judge c = search needs
+
+judge-requires : tie.Need-judge-requires
+judge-requires c κs = search needs
+
+enum-known-refusal : tie.Need-enum-known-refusal
+enum-known-refusal c = search needs
+
+of-operand-requires : tie.Need-of-operand-requires
+of-operand-requires c κs = search needs
+
+enum-known-s : tie.Need-enum-known-s
+enum-known-s c = search needs
+
+slice-aggregate-weigh-second : tie.Need-slice-aggregate-weigh-second
+slice-aggregate-weigh-second c = search needs
+
+weigh-second-requires : tie.Need-weigh-second-requires
+weigh-second-requires c κs = ?
+
+returns-2 : tie.Need-returns-2
+returns-2 c = ?
+
+returns-3 : tie.Need-returns-3
+returns-3 c = ?
+
+pub weigh-spec : {M : Type 1} → statement M
+weigh-spec =
+    tie.close
+    (tie.spec
+    window-requires
+    enum-known-w
+    enum-told
+    refuse-requires
+    returns
+    slice-aggregate-judge
+    judge-requires
+    enum-known-refusal
+    of-operand-requires
+    enum-known-s
+    slice-aggregate-weigh-second
+    weigh-second-requires
+    returns-2
+    returns-3)
