@@ -10,6 +10,7 @@ use Rattle.choice.specs.Choice.{if_then_else_}
 use Rattle.dates.specs.Windows.{windowOf}
 use Rattle.dates.specs.declared.ProcessDay.{ProcessDay}
 use Rattle.dates.specs.declared.Window.{Window}
+use Rattle.dates.specs.declared.Opening.the-variants.{Open}
 use Rattle.fields.specs.Bytes.{every, isDigit, same, part}
 use Rattle.figures.specs.Figures.{within, limitWide}
 use Rattle.figures.specs.declared.totals.Totals.{Totals}
@@ -62,6 +63,11 @@ allowed a b s t =
     (if shares (allKeys (recordsOf a)) (allKeys (recordsOf b)) then refused 15 2 (sharedAt 0 (allKeys (recordsOf a)) (recordsOf b)) 6
     else limited s t)
     else refused 20 2 1 5
+
+-- the window of a process day
+pub record OnDay (w : Window) : Type 0 where
+  pub day : ProcessDay
+  pub opened : windowOf day ≡ Open w
 
 -- the second file behind an accepted first one
 unfoldable pub secondOf : Window → List ℕ → Totals → List ℕ → Verdict

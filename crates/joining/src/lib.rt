@@ -8,7 +8,7 @@ ghost use Rattle.operations.specs.Joining.{sender, both, shares, sharedAt, join
 ghost use Rattle.rules.specs.Growth.{keys, allKeys};
 ghost use Rattle.rules.specs.Run.{refused, recordsOf, judge};
 ghost use Rattle.rules.specs.declared.Verdict.the-variants.{Accepted};
-ghost use Rattle.joining.specs.Weighed.{Keyed, AllKeyed, Countable, limited, Judged, allowed, secondOf, weighed};
+ghost use Rattle.joining.specs.Weighed.{Keyed, AllKeyed, Countable, limited, Judged, allowed, OnDay, secondOf, weighed};
 use dates::Opening;
 use dates::ProcessDay;
 use dates::Window;
@@ -159,7 +159,7 @@ fn of_operand(operand: u8, refusal: Refusal) -> Verdict
 
 // The second file behind an accepted first one, then both together.
 fn weigh_second(w: Window, first: &[u8], s: Totals, ours: &[u64], second: &[u8]) -> Verdict
-    requires { ⌜ (judge w (now first) ≡ Accepted s) × (length (now ours) ≡ 500) × (take (s .assignments .0) (now ours) ≡ allKeys (recordsOf (now first))) ⌝ }
+    requires { ⌜ OnDay w × (judge w (now first) ≡ Accepted s) × (length (now ours) ≡ 500) × (take (s .assignments .0) (now ours) ≡ allKeys (recordsOf (now first))) ⌝ }
     ensures { λ x. ⌜ x ≡ secondOf w (now (first .entry)) s (now (second .entry)) ⌝ }
 {
     let mut theirs = [0u64; 500];

@@ -1,3 +1,6 @@
+-- Assumes nothing.
+use mathlib.Core.Path.{sym, _∙_}
+use Rattle.joining.proofs.Answers.{no-day, first-refused, first-accepted}
 use borrow.Author.Needs.{needs}
 use Rattle.joining.proofs.weigh.Statement.{statement}
 use Rattle.joining.proofs.weigh.Tie as tie
@@ -22,7 +25,9 @@ refuse-requires : tie.Need-refuse-requires
 refuse-requires c κs = search needs
 
 returns : tie.Need-returns
-returns c = ?
+returns c =
+    let a = c .before .before .before .before .before .before .args in
+    no-day (a .day) (a .first .now) (a .second .now) _ (c .before .before .before .window .ensures) _ (c .refuse .ensures) (c .before .enum-told .given .1)
 
 slice-aggregate-judge : tie.Need-slice-aggregate-judge
 slice-aggregate-judge c = search needs
@@ -43,13 +48,19 @@ slice-aggregate-weigh-second : tie.Need-slice-aggregate-weigh-second
 slice-aggregate-weigh-second c = search needs
 
 weigh-second-requires : tie.Need-weigh-second-requires
-weigh-second-requires c κs = ?
+weigh-second-requires c κs =
+    let i = c .before .before .before .before .before .judge .ensures in
+    (record { day = c .before .before .before .before .before .before .before .before .before .before .before .before .before .args .day; opened = sym (c .before .before .before .before .before .before .before .before .before .before .window .ensures) ∙ c .before .before .before .before .before .before .before .before .w .given .1 }, sym (i .0) ∙ c .before .before .s .given .1, c .before .before .before .before .before .judge .kept .1 .1 .0, i .1 _ (c .before .before .s .given .1))
 
 returns-2 : tie.Need-returns-2
-returns-2 c = ?
+returns-2 c =
+    let a = c .before .before .before .before .before .before .before .before .before .before .before .before .before .args in
+    first-refused (a .day) (a .first .now) (a .second .now) _ (c .before .before .before .before .before .before .before .before .before .before .window .ensures) _ (c .before .before .before .before .before .before .before .before .w .given .1) _ (c .before .before .before .before .before .judge .ensures .0) _ _ (c .of-operand .ensures) (c .before .before .refusal .given .1)
 
 returns-3 : tie.Need-returns-3
-returns-3 c = ?
+returns-3 c =
+    let a = c .before .before .before .before .before .before .before .before .before .before .before .before .before .before .args in
+    first-accepted (a .day) (a .first .now) (a .second .now) _ (c .before .before .before .before .before .before .before .before .before .before .before .window .ensures) _ (c .before .before .before .before .before .before .before .before .before .w .given .1) _ (c .before .before .before .before .before .before .judge .ensures .0) _ _ (c .weigh-second .ensures) (c .before .before .before .s .given .1)
 
 pub weigh-spec : {M : Type 1} → statement M
 weigh-spec =

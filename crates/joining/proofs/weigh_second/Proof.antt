@@ -1,3 +1,6 @@
+-- Assumes nothing.
+use mathlib.Core.Path.{sym, _∙_}
+use Rattle.joining.proofs.Answers.{judged, second-refused, second-accepted}
 use borrow.Author.Needs.{needs}
 use Rattle.joining.proofs.weigh_second.Statement.{statement}
 use Rattle.joining.proofs.weigh_second.Tie as tie
@@ -26,13 +29,20 @@ slice-aggregate-allowed : tie.Need-slice-aggregate-allowed
 slice-aggregate-allowed c = search needs
 
 allowed-requires : tie.Need-allowed-requires
-allowed-requires c κs = ?
+allowed-requires c κs =
+    let s = c .before .before .before .before .before .before .before .before .before .before in
+    let i = sym (c .before .before .before .before .before .judge .ensures .0) ∙ c .before .before .t .given .1 in
+    (judged _ (s .pre .0) _ _ _ (s .pre .1) (s .pre .2) (s .pre .3), judged _ (s .pre .0) _ _ _ i (c .before .before .before .before .before .judge .kept .1 .1 .0) (c .before .before .before .before .before .judge .ensures .1 _ (c .before .before .t .given .1)))
 
 returns : tie.Need-returns
-returns c = ?
+returns c =
+    let a = c .before .before .before .before .before .before .before .before .before .before .args in
+    second-refused (a .w) (a .first .now) (a .s) (a .second .now) _ (c .before .before .before .before .before .judge .ensures .0) _ _ (c .of-operand .ensures) (c .before .before .refusal .given .1)
 
 returns-2 : tie.Need-returns-2
-returns-2 c = ?
+returns-2 c =
+    let a = c .before .before .before .before .before .before .before .before .before .before .before .args in
+    second-accepted (a .w) (a .first .now) (a .s) (a .second .now) _ (c .before .before .before .before .before .before .judge .ensures .0) _ _ (c .allowed .ensures) (c .before .before .before .t .given .1)
 
 pub weigh-second-spec : {M : Type 1} → statement M
 weigh-second-spec =
