@@ -4,6 +4,8 @@ use Prim.Native.Nat.{ℕ}
 use mathlib.Core.List.{List, [], _∷_}
 use Rattle.dates.specs.declared.ProcessDay.{ProcessDay}
 use Rattle.figures.specs.declared.totals.Totals.{Totals}
+use Rattle.operations.specs.declared.Parting.{Parting}
+use Rattle.operations.specs.declared.Parting.the-variants.{Parted, NotParted}
 use Rattle.rules.specs.declared.Refusal.{Refusal}
 use Rattle.rules.specs.declared.Verdict.{Verdict}
 use Rattle.rules.specs.declared.Verdict.the-variants.{Accepted, Refused}
@@ -16,3 +18,8 @@ unfoldable pub numbers : Verdict → List ℕ
 numbers (Accepted t) =
     1 ∷ 0 ∷ 0 ∷ 0 ∷ 0 ∷ t .assignments .0 ∷ t .transactions .0 ∷ t .records .0 ∷ t .sum .0 ∷ t .first .0 ∷ []
 numbers (Refused x) = 0 ∷ x .number ∷ x .operand ∷ x .«record» ∷ x .field ∷ 0 ∷ 0 ∷ 0 ∷ 0 ∷ 0 ∷ []
+
+-- what is 2 for a file that was parted, which has no figures
+unfoldable pub partedNumbers : Parting → List ℕ
+partedNumbers Parted = 2 ∷ 0 ∷ 0 ∷ 0 ∷ 0 ∷ 0 ∷ 0 ∷ 0 ∷ 0 ∷ 0 ∷ []
+partedNumbers (NotParted x) = numbers (Refused x)

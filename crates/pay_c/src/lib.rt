@@ -3,9 +3,12 @@
 ghost use mathlib.Core.Path.{_≡_};
 ghost use lib.ListN.{length};
 ghost use Rattle.operations.specs.Closing.{closeOf, closedBytes};
+ghost use Rattle.operations.specs.Joining.{joinOf, joinedBytes};
+ghost use Rattle.operations.specs.Parting.{partOf, partedFirst, partedSecond};
 ghost use Rattle.rules.specs.Run.{checkOf};
-ghost use Rattle.pay_c.specs.Answers.{dayFrom, numbers};
+ghost use Rattle.pay_c.specs.Answers.{dayFrom, numbers, partedNumbers};
 use dates::ProcessDay;
+use operations::Parting;
 use rules::Verdict;
 
 // The ten numbers of a verdict.
@@ -49,6 +52,18 @@ fn tell(verdict: Verdict, answer: &mut [u64; 10])
     }
 }
 
+// The ten numbers of a parting's answer.
+fn tell_parting(parting: Parting, answer: &mut [u64; 10])
+    ensures { λ _. ⌜ now (answer .exit) ≡ partedNumbers parting ⌝ }
+{
+    match parting {
+        Parting::Parted => {
+            *answer = [2, 0, 0, 0, 0, 0, 0, 0, 0, 0];
+        }
+        Parting::NotParted(x) => tell(Verdict::Refused(x), answer),
+    }
+}
+
 #[no_mangle]
 pub extern "C" fn pay_check(year: u64, month: u64, day: u64, file: &[u8], answer: &mut [u64; 10])
     ensures { λ _. ⌜ now (answer .exit) ≡ numbers (checkOf (dayFrom year month day) (now (file .entry))) ⌝ }
@@ -72,6 +87,43 @@ pub extern "C" fn pay_close(
 {
     tell(
         closing::close(ProcessDay { year, month, day }, draft, out),
+        answer,
+    );
+}
+
+#[no_mangle]
+pub extern "C" fn pay_join(
+    year: u64,
+    month: u64,
+    day: u64,
+    first: &[u8],
+    second: &[u8],
+    out: &mut [u8],
+    answer: &mut [u64; 10],
+)
+    ensures { λ _. ⌜ (now (answer .exit) ≡ numbers (joinOf (dayFrom year month day) (now (first .entry)) (now (second .entry)) (length (now (out .entry))))) × (now (out .exit) ≡ joinedBytes (dayFrom year month day) (now (first .entry)) (now (second .entry)) (now (out .entry))) ⌝ }
+{
+    tell(
+        joining::join(ProcessDay { year, month, day }, first, second, out),
+        answer,
+    );
+}
+
+#[no_mangle]
+pub extern "C" fn pay_part(
+    year: u64,
+    month: u64,
+    day: u64,
+    file: &[u8],
+    k: u64,
+    first: &mut [u8],
+    second: &mut [u8],
+    answer: &mut [u64; 10],
+)
+    ensures { λ _. ⌜ (now (answer .exit) ≡ partedNumbers (partOf (dayFrom year month day) (now (file .entry)) k (length (now (first .entry))) (length (now (second .entry))))) × (now (first .exit) ≡ partedFirst (dayFrom year month day) (now (file .entry)) k (now (first .entry)) (now (second .entry))) × (now (second .exit) ≡ partedSecond (dayFrom year month day) (now (file .entry)) k (now (first .entry)) (now (second .entry))) ⌝ }
+{
+    tell_parting(
+        parting::part(ProcessDay { year, month, day }, file, k, first, second),
         answer,
     );
 }

@@ -1,0 +1,24 @@
+use mathlib.Core.Path.{ap, _∙_}
+use Rattle.pay_c.specs.Answers.{numbers}
+use borrow.Author.Needs.{needs}
+use Rattle.pay_c.proofs.pay_join.Statement.{statement}
+use Rattle.pay_c.proofs.pay_join.Tie as tie
+use Rattle.pay_c.proofs.pay_join.Reads as reads
+use Rattle.pay_c.proofs.pay_join.Lts as lts
+use Rattle.joining.proofs.join.Reads as join-reads
+use Rattle.pay_c.proofs.tell.Reads as tell-reads
+
+join-requires : tie.Need-join-requires
+join-requires c κs = search needs
+
+tell-requires : tie.Need-tell-requires
+tell-requires c κs = search needs
+
+same-length : tie.Need-same-length
+same-length c = search needs
+
+returns : tie.Need-returns
+returns c = (c .tell .ensures ∙ ap numbers (c .before .before .before .before .join .ensures .0), c .before .before .before .before .join .ensures .1)
+
+pub pay-join-spec : {M : Type 1} → statement M
+pay-join-spec = tie.close (tie.spec join-requires tell-requires same-length returns)

@@ -1,0 +1,28 @@
+use mathlib.Core.Path.{ap, _∙_}
+use Rattle.pay_c.specs.Answers.{partedNumbers}
+use borrow.Author.Needs.{needs}
+use Rattle.pay_c.proofs.pay_part.Statement.{statement}
+use Rattle.pay_c.proofs.pay_part.Tie as tie
+use Rattle.pay_c.proofs.pay_part.Reads as reads
+use Rattle.pay_c.proofs.pay_part.Lts as lts
+use Rattle.parting.proofs.part.Reads as part-reads
+use Rattle.pay_c.proofs.tell_parting.Reads as tell-parting-reads
+
+part-requires : tie.Need-part-requires
+part-requires c κs = search needs
+
+tell-parting-requires : tie.Need-tell-parting-requires
+tell-parting-requires c κs = search needs
+
+same-length : tie.Need-same-length
+same-length c = search needs
+
+same-length-2 : tie.Need-same-length-2
+same-length-2 c = search needs
+
+returns : tie.Need-returns
+returns c = (c .tell-parting .ensures ∙ ap partedNumbers (c .before .before .before .before .before .before .part .ensures .0), c .before .before .before .before .before .before .part .ensures .1, c .before .before .before .before .before .before .part .ensures .2)
+
+pub pay-part-spec : {M : Type 1} → statement M
+pay-part-spec =
+    tie.close (tie.spec part-requires tell-parting-requires same-length same-length-2 returns)
