@@ -1,0 +1,227 @@
+//! Asks the proved operations and this implementation the same, case by case,
+//! and compares all that they answer and every byte that they were lent.
+//!
+//! `compare N SEED` runs N cases. `compare case SEED INDEX` runs one of them
+//! and prints it.
+
+#[path = "../archive.rs"]
+mod archive;
+
+use archive::Answer;
+use reference::cases::{Case, Operation, case};
+use reference::{Accepted, RECORD, Refused, Variant};
+use std::collections::BTreeMap;
+use std::process::ExitCode;
+
+/// Bytes around a lent output that nobody may touch.
+const MARGIN: usize = 96;
+
+/// An output with margins, filled so that no byte is like its neighbours.
+struct Lent {
+    all: Vec<u8>,
+}
+
+impl Lent {
+    fn new(room: usize) -> Self {
+        Self { all: (0..room + 2 * MARGIN).map(|i| (i * 151 + i / 256 * 7 + 13) as u8).collect() }
+    }
+
+    fn out(&mut self) -> &mut [u8] {
+        let end = self.all.len() - MARGIN;
+        &mut self.all[MARGIN..end]
+    }
+}
+
+/// An answer, and all that is then in and around the outputs.
+#[derive(PartialEq, Eq)]
+struct Outcome {
+    answer: Answer,
+    outputs: [Vec<u8>; 2],
+}
+
+fn accepted(figures: Accepted) -> Answer {
+    let Accepted { assignments, transactions, records, sum, first_date } = figures;
+    let [assignments, transactions, records, first_date] =
+        [assignments, transactions, records, first_date].map(u64::from);
+    [1, 0, 0, 0, 0, assignments, transactions, records, sum, first_date]
+}
+
+fn refused(refused: Refused) -> Answer {
+    let Refused { number, operand, record, field } = refused;
+    [0, number.into(), operand.into(), record.into(), field.into(), 0, 0, 0, 0, 0]
+}
+
+/// The answer of this implementation.
+fn expected(case: &Case, variant: Variant) -> Outcome {
+    let [mut one, mut two] = case.rooms.map(Lent::new);
+    let Case { operation, day, first, second, k, .. } = case;
+    let answer = match operation {
+        Operation::Check => (variant.check)(*day, first).map(accepted),
+        Operation::Close => (variant.close)(*day, first, one.out()).map(accepted),
+        Operation::Join => (variant.join)(*day, first, second, one.out()).map(accepted),
+        Operation::Part => (variant.part)(*day, first, *k, one.out(), two.out())
+            .map(|_| [2, 0, 0, 0, 0, 0, 0, 0, 0, 0]),
+    };
+    Outcome { answer: answer.unwrap_or_else(refused), outputs: [one.all, two.all] }
+}
+
+/// The answer of the archive, which has this operation. Its inputs stay.
+fn found(case: &Case) -> Outcome {
+    let [mut one, mut two] = case.rooms.map(Lent::new);
+    let before = case.clone();
+    let answer = archive::ask(case, one.out(), two.out()).expect("the archive has the operation");
+    assert!(before.first == case.first && before.second == case.second, "an input was changed");
+    Outcome { answer, outputs: [one.all, two.all] }
+}
+
+fn differs(case: &Case) -> bool {
+    found(case) != expected(case, Variant::PLAIN)
+}
+
+/// Leaves out records as long as the answers still differ.
+fn smallest(mut case: Case) -> Case {
+    let mut again = true;
+    while again {
+        again = false;
+        for second in [false, true] {
+            let mut index = 0;
+            loop {
+                let mut smaller = case.clone();
+                let data = if second { &mut smaller.second } else { &mut smaller.first };
+                if (index + 1) * RECORD > data.len() {
+                    break;
+                }
+                data.drain(index * RECORD..(index + 1) * RECORD);
+                if differs(&smaller) {
+                    case = smaller;
+                    again = true;
+                } else {
+                    index += 1;
+                }
+            }
+        }
+    }
+    case
+}
+
+fn show(name: &str, data: &[u8]) {
+    println!("{name}: {} bytes", data.len());
+    for record in data.chunks(RECORD).take(60) {
+        println!("  {}", record.escape_ascii());
+    }
+}
+
+fn report(case: &Case) {
+    println!(
+        "{} day {:?} k {} outputs of {:?} bytes",
+        case.operation.name(),
+        case.day,
+        case.k,
+        case.rooms
+    );
+    show("first", &case.first);
+    show("second", &case.second);
+    let (expected, found) = (expected(case, Variant::PLAIN), found(case));
+    println!("reference {:?}\narchive   {:?}", expected.answer, found.answer);
+    for (name, a, b) in [
+        ("first", &expected.outputs[0], &found.outputs[0]),
+        ("second", &expected.outputs[1], &found.outputs[1]),
+    ] {
+        if let Some(at) = a.iter().zip(b).position(|(a, b)| a != b) {
+            let place = at as i64 - MARGIN as i64;
+            println!("{name} output: byte {place} is {} and {}", a[at], b[at]);
+        }
+    }
+}
+
+/// The type of the record that a refusal names.
+fn record_type(case: &Case, answer: &Answer) -> String {
+    let [_, _, operand, record, ..] = *answer;
+    let data = if operand == 2 { &case.second } else { &case.first };
+    let at = (record as usize).wrapping_sub(1).wrapping_mul(RECORD);
+    match data.get(at + 6..at + 8) {
+        _ if record == 0 => "-".into(),
+        None => "end".into(),
+        Some(kind @ (b"10" | b"20" | b"30" | b"31" | b"40" | b"49" | b"50" | b"88" | b"89")) => {
+            String::from_utf8_lossy(kind).into()
+        }
+        Some(_) => "none".into(),
+    }
+}
+
+/// How often each sort of answer was given.
+#[derive(Default)]
+struct Histogram(BTreeMap<(&'static str, u64, u64, u64, String), u64>);
+
+impl Histogram {
+    fn add(&mut self, case: &Case, answer: &Answer) {
+        let [_, number, operand, _, field, ..] = *answer;
+        let key = (case.operation.name(), number, operand, field, record_type(case, answer));
+        *self.0.entry(key).or_default() += 1;
+    }
+
+    fn print(&self) {
+        println!("operation  number operand field record     cases");
+        for ((operation, number, operand, field, kind), count) in &self.0 {
+            match number {
+                0 => println!("{operation:<9}  sound {count:>31}"),
+                _ => println!(
+                    "{operation:<9}  {number:>6} {operand:>7} {field:>5} {kind:>6} {count:>9}"
+                ),
+            }
+        }
+    }
+}
+
+fn run(cases: u64, seed: u64) -> ExitCode {
+    let operations = archive::operations();
+    for operation in Operation::ALL {
+        if !operations.contains(&operation) {
+            println!("left out: {} (not in the archive)", operation.name());
+        }
+    }
+    if operations.is_empty() {
+        println!("no archive: make it with `rt staticlib pay_c`, or name it in PAY_C");
+        return ExitCode::from(2);
+    }
+    let mut histogram = Histogram::default();
+    for index in 0..cases {
+        let case = case(seed, index, &operations);
+        let expected = expected(&case, Variant::PLAIN);
+        histogram.add(&case, &expected.answer);
+        if self::expected(&case, Variant::FAST) != expected {
+            println!("case {index} of seed {seed}: the plain and the fast variant differ");
+            return ExitCode::FAILURE;
+        }
+        if found(&case) != expected {
+            println!("case {index} of seed {seed} differs; again: compare case {seed} {index}");
+            println!("the smallest found:");
+            report(&smallest(case));
+            return ExitCode::FAILURE;
+        }
+    }
+    histogram.print();
+    println!("{cases} cases, 0 differ");
+    ExitCode::SUCCESS
+}
+
+fn main() -> ExitCode {
+    let words: Vec<String> = std::env::args().skip(1).collect();
+    let words: Vec<&str> = words.iter().map(String::as_str).collect();
+    let number = |word: &str| word.parse::<u64>().ok();
+    match words[..] {
+        ["case", seed, index] => match (number(seed), number(index)) {
+            (Some(seed), Some(index)) => {
+                report(&case(seed, index, &archive::operations()));
+                return ExitCode::SUCCESS;
+            }
+            _ => eprintln!("compare case SEED INDEX"),
+        },
+        [cases, seed] => match (number(cases), number(seed)) {
+            (Some(cases), Some(seed)) => return run(cases, seed),
+            _ => eprintln!("compare N SEED"),
+        },
+        _ => eprintln!("compare N SEED, or compare case SEED INDEX"),
+    }
+    ExitCode::from(2)
+}
