@@ -17,6 +17,7 @@ pub mod program;
 pub mod random;
 pub mod records;
 pub mod sample;
+pub mod vectors;
 mod word;
 mod writer;
 

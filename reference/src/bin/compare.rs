@@ -2,14 +2,14 @@
 //! and compares all that they answer and every byte that they were lent.
 //!
 //! `compare N SEED` runs N cases. `compare case SEED INDEX` runs one of them
-//! and prints it.
+//! and prints it. `compare vectors FOLDER` runs the vectors in FOLDER.
 
 #[path = "../archive.rs"]
 mod archive;
 
 use archive::Answer;
 use reference::cases::{Case, Operation, case};
-use reference::{Accepted, RECORD, Refused, Variant};
+use reference::{Accepted, RECORD, Refused, Variant, vectors};
 use std::collections::BTreeMap;
 use std::process::ExitCode;
 
@@ -173,7 +173,8 @@ impl Histogram {
     }
 }
 
-fn run(cases: u64, seed: u64) -> ExitCode {
+/// The operations that can be compared; says which cannot.
+fn operations() -> Vec<Operation> {
     let operations = archive::operations();
     for operation in Operation::ALL {
         if !operations.contains(&operation) {
@@ -182,6 +183,34 @@ fn run(cases: u64, seed: u64) -> ExitCode {
     }
     if operations.is_empty() {
         println!("no archive: make it with `rt staticlib pay_c`, or name it in PAY_C");
+    }
+    operations
+}
+
+/// Runs the vectors of a folder, from v000 on.
+fn run_vectors(folder: &str) -> ExitCode {
+    let operations = operations();
+    let (mut asked, mut differ) = (0, 0);
+    for index in 0..1000 {
+        let name = format!("v{index:03}");
+        let Ok(vector) = std::fs::read(std::path::Path::new(folder).join(&name)) else { break };
+        let case = vectors::read(&vector).expect("a vector");
+        if operations.contains(&case.operation) {
+            asked += 1;
+            if differs(&case) {
+                differ += 1;
+                println!("{name} differs");
+                report(&case);
+            }
+        }
+    }
+    println!("{asked} vectors, {differ} differ");
+    if asked > 0 && differ == 0 { ExitCode::SUCCESS } else { ExitCode::FAILURE }
+}
+
+fn run(cases: u64, seed: u64) -> ExitCode {
+    let operations = operations();
+    if operations.is_empty() {
         return ExitCode::from(2);
     }
     let mut histogram = Histogram::default();
@@ -217,11 +246,12 @@ fn main() -> ExitCode {
             }
             _ => eprintln!("compare case SEED INDEX"),
         },
+        ["vectors", folder] => return run_vectors(folder),
         [cases, seed] => match (number(cases), number(seed)) {
             (Some(cases), Some(seed)) => return run(cases, seed),
             _ => eprintln!("compare N SEED"),
         },
-        _ => eprintln!("compare N SEED, or compare case SEED INDEX"),
+        _ => eprintln!("compare N SEED, compare case SEED INDEX, or compare vectors FOLDER"),
     }
     ExitCode::from(2)
 }
