@@ -4,7 +4,7 @@
 use crate::damage::damage;
 use crate::random::Random;
 use crate::records::{self, closed, count, file_of, long_file};
-use crate::sample::{Plan, days, sound_draft};
+use crate::sample::{DAY, Plan, days, sound_draft};
 use crate::{Day, RECORD};
 
 #[derive(Clone, Copy, Debug, PartialEq, Eq)]
@@ -51,8 +51,8 @@ pub fn case(seed: u64, index: u64, operations: &[Operation]) -> Case {
     let mut random = Random::of_case(seed, index);
     let operation = random.pick(operations);
     let mut case = match random.below(20_000) {
-        0 => huge(&mut random, operation),
-        1..=60 => many_assignments(&mut random, operation),
+        0..=1 => huge(&mut random, operation),
+        2..=60 => many_assignments(&mut random, operation),
         _ => small(&mut random, operation),
     };
     if random.percent(2) {
@@ -63,7 +63,7 @@ pub fn case(seed: u64, index: u64, operations: &[Operation]) -> Case {
 
 fn process_day(random: &mut Random) -> Day {
     match random.below(10) {
-        0..=4 => (2025, 10, 1),
+        0..=4 => DAY,
         5 => (2000 + 4 * random.below(25), 2, 29),
         6 => random.pick(&[(2000, 1, 1), (2099, 12, 31), (2025, 12, 31), (2026, 1, 1)]),
         _ => {
@@ -121,13 +121,33 @@ fn random_bytes(random: &mut Random) -> Vec<u8> {
     (0..length).map(|_| random.draw() as u8).collect()
 }
 
+/// Sets the date of some 30 to one just inside or just outside the window.
+fn edge_of_window(random: &mut Random, mut draft: Vec<u8>, (year, month, day): Day) -> Vec<u8> {
+    let payments: Vec<usize> = (0..draft.len() / RECORD)
+        .map(|index| index * RECORD)
+        .filter(|&at| records::kind(&draft[at..]) == *b"30")
+        .collect();
+    let at = random.pick(&payments);
+    let year = random.pick(&[year + 1, year + 1, year - 1]) % 100;
+    let day = random.pick(&[day, day + 1, day - 1]);
+    let date = format!("{day:02}{month:02}{year:02}");
+    draft[at + 15..at + 21].copy_from_slice(date.as_bytes());
+    draft
+}
+
 /// A file that is sound, or damaged before or after its ends were written.
 fn file(random: &mut Random, day: Day, sound: u64) -> Vec<u8> {
-    let draft = sound_draft(plan(random, day));
+    let plan = plan(random, day);
+    file_by(random, plan, sound)
+}
+
+fn file_by(random: &mut Random, plan: Plan, sound: u64) -> Vec<u8> {
+    let draft = sound_draft(plan);
     if random.percent(sound) {
         return closed(&draft);
     }
-    match random.below(20) {
+    match random.below(22) {
+        20 | 21 => closed(&edge_of_window(random, draft, plan.day)),
         0..=8 => closed(&damaged(random, draft)),
         9..=16 => damaged(random, closed(&draft)),
         17 => {
@@ -154,7 +174,8 @@ fn wrong_ends(random: &mut Random, mut file: Vec<u8>) -> Vec<u8> {
 /// A draft that is sound, or damaged, or has an 88 or 89 in it.
 fn draft(random: &mut Random, day: Day) -> Vec<u8> {
     let draft = sound_draft(plan(random, day));
-    match random.below(20) {
+    match random.below(22) {
+        20 | 21 => edge_of_window(random, draft, day),
         0..=5 => draft,
         6..=16 => damaged(random, draft),
         17 => {
@@ -218,7 +239,7 @@ fn share_key(random: &mut Random, first: &[u8], second: &mut [u8]) {
 }
 
 fn small(random: &mut Random, operation: Operation) -> Case {
-    let day = process_day(random);
+    let mut day = process_day(random);
     match operation {
         Operation::Check => Case::new(operation, day, file(random, day, 12)),
         Operation::Close => {
@@ -229,6 +250,7 @@ fn small(random: &mut Random, operation: Operation) -> Case {
         }
         Operation::Join => {
             let (first, mut second) = if random.percent(12) {
+                day = DAY;
                 sums_together(random)
             } else {
                 let sound = random.pick(&[(100, 100), (100, 100), (100, 100), (0, 100), (100, 0)]);
@@ -246,7 +268,9 @@ fn small(random: &mut Random, operation: Operation) -> Case {
             Case { second, rooms, ..Case::new(operation, day, first) }
         }
         Operation::Part => {
-            let file = file(random, day, 75);
+            let mut plan = plan(random, day);
+            plan.assignments += u32::from(random.percent(85));
+            let file = file_by(random, plan, 75);
             let k = boundary(random, &file);
             let rooms = parts(&file, k).map(|needed| room(random, needed));
             Case { k, rooms, ..Case::new(operation, day, file) }
@@ -274,7 +298,7 @@ fn boundary(random: &mut Random, file: &[u8]) -> u64 {
 
 /// Files about the limit of 500 assignments.
 fn many_assignments(random: &mut Random, operation: Operation) -> Case {
-    let day = (2025, 10, 1);
+    let day = DAY;
     let assignments = random.pick(&[499, 500, 500, 501, 502]);
     let service = random.pick(&["01", "04"]);
     let keys: Vec<(u32, u32)> = (0..assignments).map(|i| (i * 7919 % 1000, i)).collect();
@@ -313,11 +337,17 @@ fn many_assignments(random: &mut Random, operation: Operation) -> Case {
 
 /// Files about the limit of 200,000 records.
 fn huge(random: &mut Random, operation: Operation) -> Case {
-    let day = (2025, 10, 1);
+    let day = DAY;
     // An even number of records, and by one transfer too many.
     let transactions = random.pick(&[99_998, 99_998, 99_999]);
     match operation {
-        Operation::Check => Case::new(operation, day, long_file(1, transactions)),
+        Operation::Check => {
+            let mut file = long_file(1, transactions);
+            if random.percent(30) {
+                damage(random, &mut file);
+            }
+            Case::new(operation, day, file)
+        }
         Operation::Close => {
             let mut draft = records::draft(&long_file(1, transactions));
             if random.percent(30) {

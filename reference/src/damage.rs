@@ -188,6 +188,52 @@ fn copy_field(random: &mut Random, data: &mut [u8], record: usize) {
     }
 }
 
+/// Sets the field from one position on.
+fn set(data: &mut [u8], record: usize, from: usize, text: &str) {
+    data[record + from - 1..][..text.len()].copy_from_slice(text.as_bytes());
+}
+
+/// A fault that only shows beside other records or at a limit; the form stays.
+fn damage_meaning(random: &mut Random, data: &mut [u8], record: usize) {
+    match &kind(&data[record..]) {
+        b"30" => match random.below(6) {
+            0 | 1 => {
+                let (day, month, year) =
+                    (1 + random.below(31), 1 + random.below(12), random.below(100));
+                set(data, record, 16, &format!("{day:02}{month:02}{year:02}"));
+            }
+            2 => count_on(&mut data[record + 21..record + 32], true),
+            3 => count_on(&mut data[record + 8..record + 15], random.percent(50)),
+            4 => count_on(&mut data[record + 32..record + 49], random.percent(50)),
+            _ => {
+                let amount = likely_value(random, 17);
+                data[record + 32..record + 49].copy_from_slice(&amount);
+            }
+        },
+        b"49" => {
+            let place = format!("{:03}{}", random.below(24), random.below(4));
+            set(data, record, 17, &place);
+            let neighbour = record.saturating_sub(RECORD);
+            if random.percent(60) && kind(&data[neighbour..]) == *b"49" {
+                data.copy_within(neighbour + 16..neighbour + 20, record + 16);
+            }
+        }
+        b"50" => match random.below(4) {
+            0 => set(data, record, 5, random.pick(&["16", "17"])),
+            1 => count_on(&mut data[record + 40..record + 57], random.percent(50)),
+            _ => {
+                let amount = likely_value(random, 17);
+                data[record + 40..record + 57].copy_from_slice(&amount);
+            }
+        },
+        b"40" => {
+            let (from, to) = random.pick(&[(16, 45), (46, 49), (50, 52), (53, 77)]);
+            data[record + from - 1..record + to].fill(random.pick(b" 0\xa0"));
+        }
+        _ => copy_field(random, data, record),
+    }
+}
+
 /// Damages the data in one way; nothing at all can be left of it.
 pub fn damage(random: &mut Random, data: &mut Vec<u8>) {
     let records = data.len() / RECORD;
@@ -195,7 +241,8 @@ pub fn damage(random: &mut Random, data: &mut Vec<u8>) {
         return;
     }
     let record = random.index(records) * RECORD;
-    match random.below(24) {
+    match random.below(32) {
+        24..=31 => damage_meaning(random, data, record),
         0..=9 => damage_record(random, &mut data[record..record + RECORD]),
         10 | 11 => {
             // Two faults in one record.

@@ -40,7 +40,8 @@ impl Plan {
 
     /// A file like a season's with so many records and assignments.
     pub fn like_a_season(records: usize, assignments: u32) -> Self {
-        let transactions = (records - 2) as u32 * 45 / 100 / assignments;
+        let inside = records as u32 - 2 - 2 * assignments;
+        let transactions = (inside / 100 * 45 / assignments).max(1);
         Self { assignments, transactions, records: Some(records), ..Self::SEASON }
     }
 }
