@@ -78,28 +78,31 @@ fn differs(case: &Case) -> bool {
     found(case) != expected(case, Variant::PLAIN)
 }
 
-/// Leaves out records as long as the answers still differ.
+/// The case without some records of one of its inputs, if it has them.
+fn without(case: &Case, of_second: bool, from: usize, records: usize) -> Option<Case> {
+    let mut smaller = case.clone();
+    let data = if of_second { &mut smaller.second } else { &mut smaller.first };
+    let (from, to) = (from * RECORD, (from + records) * RECORD);
+    (to <= data.len()).then(|| data.drain(from..to).count())?;
+    Some(smaller)
+}
+
+/// Leaves out runs of records, long ones first, as long as the answers still
+/// differ.
 fn smallest(mut case: Case) -> Case {
-    let mut again = true;
-    while again {
-        again = false;
-        for second in [false, true] {
-            let mut index = 0;
-            loop {
-                let mut smaller = case.clone();
-                let data = if second { &mut smaller.second } else { &mut smaller.first };
-                if (index + 1) * RECORD > data.len() {
-                    break;
-                }
-                data.drain(index * RECORD..(index + 1) * RECORD);
+    let mut run = case.first.len().max(case.second.len()) / RECORD;
+    while run > 0 {
+        for of_second in [false, true] {
+            let mut from = 0;
+            while let Some(smaller) = without(&case, of_second, from, run) {
                 if differs(&smaller) {
                     case = smaller;
-                    again = true;
                 } else {
-                    index += 1;
+                    from += 1;
                 }
             }
         }
+        run /= 2;
     }
     case
 }
