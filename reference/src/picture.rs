@@ -30,11 +30,12 @@ impl Panel {
         (scale(value) - from) / (to - from) * WIDTH
     }
 
-    /// The end of the axis upwards: a multiple of ten above every point.
+    /// The end of the axis upwards: above every point, and so that its four
+    /// steps are round numbers.
     fn top(&self) -> f64 {
         let points = self.lines.iter().flat_map(|line| &line.points);
         let most = points.map(|point| point.1).fold(0., f64::max);
-        ((most / 10.).floor() + 1.) * 10.
+        ((most / 40.).floor() + 1.) * 40.
     }
 
     fn up(&self, value: f64) -> f64 {

@@ -15,6 +15,9 @@ use std::hint::black_box;
 use std::time::Instant;
 
 const RUNS: usize = 15;
+/// The growth is measured in rounds over all files, so that what else the
+/// machine does for a while does not bend the lines.
+const ROUNDS: usize = 5;
 
 /// What a piece of work takes, in seconds.
 #[derive(Clone, Copy)]
@@ -64,7 +67,7 @@ impl Work {
     }
 
     /// The archive's times, if it has the operation, and this implementation's.
-    fn times(&self) -> (Option<Times>, Times) {
+    fn times(&self, runs: usize) -> (Option<Times>, Times) {
         let [mut out1, mut out2] = self.case.rooms.map(|room| vec![0; room]);
         let has = archive::operations().contains(&self.case.operation);
         if has {
@@ -73,7 +76,7 @@ impl Work {
         self.ask_reference(&mut out1, &mut out2);
         let repeats = (20_000 / self.records).max(1);
         let (mut of_archive, mut of_reference) = (Vec::new(), Vec::new());
-        for _ in 0..RUNS {
+        for _ in 0..runs {
             if has {
                 of_archive.push(time(repeats, || self.ask_archive(&mut out1, &mut out2)));
             }
@@ -144,7 +147,7 @@ fn season() {
     println!("                      ms  ns/record      best      MB/s  archive : reference");
     for work in works(Plan::SEASON) {
         let name = work.case.operation.name();
-        let (of_archive, of_reference) = work.times();
+        let (of_archive, of_reference) = work.times(RUNS);
         match of_archive {
             Some(times) => println!(
                 "{}  {:.2} : 1 (best {:.2} : 1)",
@@ -163,68 +166,95 @@ fn season() {
     println!("{}", row("memcpy", "floor", Times::of(copies), records));
 }
 
-/// The best times in ns for a record, of each operation by each of the two.
-struct Growth {
-    lines: Vec<Line>,
+/// The operations on one file, and their best times in ns for a record: the
+/// archive's, without end where it has not the operation, and the reference's.
+struct Spot {
+    at: usize,
+    works: Vec<(Work, [f64; 2])>,
 }
 
-impl Growth {
-    fn new() -> Self {
-        let line = |operation: Operation, proved| Line {
-            name: format!("{} {}", operation.name(), if proved { "archive" } else { "reference" }),
-            dashed: !proved,
-            points: Vec::new(),
-        };
-        let lines = Operation::ALL.into_iter().flat_map(|op| [line(op, true), line(op, false)]);
-        Self { lines: lines.collect() }
+impl Spot {
+    fn new(at: usize, plan: Plan) -> Self {
+        let works = works(plan).into_iter().map(|work| (work, [f64::INFINITY; 2]));
+        Self { at, works: works.collect() }
     }
 
-    /// Times the operations on a file, prints a line and keeps the points.
-    fn measure(&mut self, at: usize, what: &str, plan: Plan) {
-        let mut text = format!("{at:>7} {what}");
-        for work in works(plan) {
-            let (of_archive, of_reference) = work.times();
-            let index = work.case.operation as usize * 2;
-            text += &format!("  {} ", work.case.operation.name());
-            for (line, times) in [(index, of_archive), (index + 1, Some(of_reference))] {
-                let Some(times) = times else {
-                    text += "     -";
-                    continue;
-                };
-                let value = per_record(times.best, work.records);
-                self.lines[line].points.push((at as f64, value));
-                text += &format!(" {value:>5.1}");
+    fn measure(&mut self) {
+        for (work, best) in &mut self.works {
+            let (of_archive, of_reference) = work.times(RUNS / ROUNDS);
+            for (best, times) in best.iter_mut().zip([of_archive, Some(of_reference)]) {
+                if let Some(times) = times {
+                    *best = best.min(per_record(times.best, work.records));
+                }
+            }
+        }
+    }
+
+    fn print(&self, what: &str) {
+        let mut text = format!("{:>7} {what}", self.at);
+        for (work, best) in &self.works {
+            text += &format!("  {:<5}", work.case.operation.name());
+            for value in best {
+                text += &if value.is_finite() { format!(" {value:>5.1}") } else { "     -".into() };
             }
         }
         println!("{text}");
     }
 }
 
+/// A line for each operation by the archive, and one by the reference.
+fn lines(spots: &[Spot]) -> Vec<Line> {
+    let line = |operation: Operation, who: usize| {
+        let of = |spot: &Spot| {
+            let (_, best) = spot.works.iter().find(|(work, _)| work.case.operation == operation)?;
+            best[who].is_finite().then_some((spot.at as f64, best[who]))
+        };
+        Line {
+            name: format!("{} {}", operation.name(), ["archive", "reference"][who]),
+            dashed: who == 1,
+            points: spots.iter().filter_map(of).collect(),
+        }
+    };
+    Operation::ALL
+        .into_iter()
+        .flat_map(|operation| [0, 1].map(|who| line(operation, who)))
+        .collect()
+}
+
+/// Measures the files in rounds and prints a line for each.
+fn grown(mut spots: Vec<Spot>, what: &str) -> Vec<Line> {
+    for _ in 0..ROUNDS {
+        spots.iter_mut().for_each(Spot::measure);
+    }
+    spots.iter().for_each(|spot| spot.print(what));
+    lines(&spots)
+}
+
 fn growth() -> [Panel; 2] {
     println!("\nns for a record (best of {RUNS}): archive, reference");
-    let mut by_records = Growth::new();
-    for records in [1_000, 10_000, 100_000, 200_000] {
+    let spots = [1_000, 10_000, 100_000, 200_000].map(|records| {
         let assignments = (records as u32 / 4_444).max(2);
-        by_records.measure(records, "records", Plan::like_a_season(records, assignments));
-    }
+        Spot::new(records, Plan::like_a_season(records, assignments))
+    });
+    let by_records = grown(spots.into(), "records");
+
     println!("\nthe same, 20000 records in so many assignments");
-    let mut by_assignments = Growth::new();
-    for assignments in [1, 2, 10, 50, 100, 200, 300, 400, 500] {
-        let plan = Plan::like_a_season(20_000, assignments);
-        by_assignments.measure(assignments as usize, "assignments", plan);
-    }
+    let spots = [1, 2, 10, 50, 100, 200, 300, 400, 500].map(|assignments| {
+        Spot::new(assignments as usize, Plan::like_a_season(20_000, assignments))
+    });
+    let by_assignments = grown(spots.into(), "assignments");
     [
         Panel {
             title: "ns for a record, by the records of the file".into(),
             logarithmic: true,
             marks: vec![1e3, 1e4, 1e5, 2e5],
-            lines: by_records.lines,
+            lines: by_records,
         },
         Panel {
             title: "ns for a record, 20,000 records, by assignments".into(),
             logarithmic: false,
             marks: vec![1., 100., 200., 300., 400., 500.],
-            lines: by_assignments.lines,
+            lines: by_assignments,
         },
     ]
 }
