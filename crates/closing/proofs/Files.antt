@@ -9,7 +9,7 @@ use borrow.Author.Tests.{eqb-true, eq-eqb, ne-eqb, ltb-true, ltb-false}
 use borrow.Rule.Slice.PartMut.{putMid}
 use lib.Dec.{eqb, ltb}
 use lib.ListN.{length, take, drop, length-append, length-take, length-drop}
-use lib.Seq.{take-add, drop-drop, drop-append-seam, drop-append-add}
+use lib.Seq.{drop-drop, drop-append-seam, drop-append-add}
 use Rattle.choice.specs.Choice.{if_then_else_}
 use Rattle.dates.specs.Dates.{date, earlier}
 use Rattle.dates.specs.declared.Date.{Date}
@@ -22,6 +22,7 @@ use Rattle.figures.specs.declared.totals.AssignmentTotals.{AssignmentTotals}
 use Rattle.figures.proofs.Laws.{⊕-none, none-⊕}
 use Rattle.laws.specs.Meets.{gains, turns, Meets, Ends}
 use Rattle.laws.proofs.Bytes.{Whole, whole}
+use Rattle.laws.proofs.Made.{bytes-join}
 use Rattle.layout.specs.Rows.{member, AllHold}
 use Rattle.operations.specs.Ends.{endRecord, end88, end89}
 use Rattle.operations.specs.Closing.{opens, closedFigures, behind88, withEnds, bytesOf, closedFile}
@@ -41,22 +42,10 @@ use Rattle.running.proofs.Records.{rest-start, rest-end, part-is}
 use Rattle.writing.proofs.Wrote.{Wrote, at-first, behind, told, wrote-length, room-behind, end-length}
 use Rattle.drafts.specs.Block.{recordsFrom, between, recordAt, state, Ahead, behindEnd, Block}
 use Rattle.drafts.proofs.Within.{twenty-code}
-use Rattle.drafts.proofs.Walk.{next-of, plain, holds, step-on, step-turned, handed}
+use Rattle.drafts.proofs.Walk.{next-of, laid, plain, holds, step-on, step-turned, handed}
 use Rattle.closing.specs.Weighed.{span, endOf, InDraft, Weighed}
 
 -- ---- records and bytes
-bytes-join : (xs ys : List (List ℕ)) → bytesOf (xs ++ ys) ≡ bytesOf xs ++ bytesOf ys
-unfolding bytesOf
-bytes-join [] ys = refl
-bytes-join (x ∷ xs) ys = ap (λ (l : List ℕ). x ++ l) (bytes-join xs ys) ∙ sym (append-assoc x (bytesOf xs) (bytesOf ys))
-
-laid : (n : ℕ) (b : List ℕ) → 81 * n ≤ length b → bytesOf (chunks n b) ≡ take (81 * n) b
-unfolding bytesOf chunks
-laid zero b h = refl
-laid (suc n) b h =
-    let e : 81 + 81 * n ≡ 81 * suc n = omega arith in
-    ap (λ (l : List ℕ). take 81 b ++ l) (laid n (drop 81 b) (rw length-drop (omega arith))) ∙ sym (take-add 81 (81 * n) b) ∙ ap (λ (x : ℕ). take x b) e
-
 span-is : (k n : ℕ) (d : List ℕ) → k ≤ n → n ≤ length d / 81 → bytesOf (between k n d) ≡ span k n d
 span-is k n d h m =
     let e : 81 * (n - k) ≡ 81 * n - 81 * k = omega arith in

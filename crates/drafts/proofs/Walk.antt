@@ -8,8 +8,8 @@ use native.Mathlib.Omega.{arith}
 use native.Mathlib.Numerals.{add-one}
 use borrow.Author.Tests.{eqb-true, eq-eqb, ne-eqb, lt-ltb}
 use lib.Dec.{eqb, ltb}
-use lib.ListN.{length, take, drop}
-use lib.Seq.{drop-drop}
+use lib.ListN.{length, take, drop, length-drop}
+use lib.Seq.{drop-drop, take-add}
 use Rattle.choice.specs.Choice.{if_then_else_}
 use Rattle.dates.specs.declared.Service.{Service}
 use Rattle.dates.specs.declared.Window.{Window}
@@ -22,7 +22,7 @@ use Rattle.growth.specs.Bounds.{Bounded, Small}
 use Rattle.laws.specs.Meets.{gains, Meets}
 use Rattle.layout.specs.Rows.{AllHold}
 use Rattle.operations.specs.Ends.{endRecord, end88}
-use Rattle.operations.specs.Closing.{opens, behind88, endsBefore, withEnds}
+use Rattle.operations.specs.Closing.{opens, behind88, endsBefore, withEnds, bytesOf}
 use Rattle.rules.specs.Codes.{serviceCode, recordCode, codeFor, serviceFor, kindOf}
 use Rattle.rules.specs.Growth.{gainFor, gain, turnFor, turn, keys, after, opened}
 use Rattle.rules.specs.Layouts.{tableFor, rows}
@@ -54,7 +54,15 @@ last-cut (suc n) b =
     let e : 81 + 81 * n ≡ 81 * suc n = omega arith in
     ap (λ (x : List (List ℕ)). take 81 b ∷ x) (last-cut n (drop 81 b) ∙ ap (λ (x : List ℕ). chunks n (drop 81 b) ++ (take 81 x ∷ [])) (drop-drop (81 * n) 81 b ∙ ap (λ (x : ℕ). drop x b) e))
 
-one-gain : (k : ℕ) (d : List ℕ) → gains (chunks (k + 1) d) ≡ gains (chunks k d) ⊕ gain (recordAt k d)
+-- records laid one behind the other again
+pub laid : (n : ℕ) (b : List ℕ) → 81 * n ≤ length b → bytesOf (chunks n b) ≡ take (81 * n) b
+unfolding bytesOf chunks
+laid zero b h = refl
+laid (suc n) b h =
+    let e : 81 + 81 * n ≡ 81 * suc n = omega arith in
+    ap (λ (l : List ℕ). take 81 b ++ l) (laid n (drop 81 b) (rw length-drop (omega arith))) ∙ sym (take-add 81 (81 * n) b) ∙ ap (λ (x : ℕ). take x b) e
+
+pub one-gain : (k : ℕ) (d : List ℕ) → gains (chunks (k + 1) d) ≡ gains (chunks k d) ⊕ gain (recordAt k d)
 unfolding gains
 one-gain k d =
     ap (λ (x : ℕ). gains (chunks x d)) (add-one k) ∙ ap gains (last-cut k d) ∙ gains-join (chunks k d) (recordAt k d ∷ [])

@@ -14,8 +14,8 @@ use Rattle.dates.specs.declared.Date.{Date}
 use Rattle.dates.specs.declared.Window.{Window}
 use Rattle.fields.specs.Bytes.{every, isDigit, part}
 use Rattle.fields.specs.Numbers.{value}
-use Rattle.figures.specs.Figures.{amount}
 use Rattle.figures.specs.Totals.{oneRecord, oneTransaction, _⊞_, undated, dated, Room}
+use Rattle.figures.specs.declared.amounts.Amount.{Amount}
 use Rattle.figures.specs.declared.totals.Totals.{Totals}
 use Rattle.figures.specs.declared.totals.AssignmentTotals.{AssignmentTotals}
 use Rattle.growth.specs.Bounds.{Bounded}
@@ -181,33 +181,32 @@ module _ (w : Window) (f : Totals) (ks : List ℕ) (a : Assignment) (r : List �
       }
 
 -- ---- the figures behind one more record, as the code comes to them
+pub has-digits : (s : List ℕ) → every isDigit s ≡ true → every isDigit s ≡ false → ⊥
+has-digits s h x = true≢false (sym h ∙ x)
+
+pub date-read : (r : List ℕ) (y : ℕ) (d : Date) → value (part 16 21 r) ≡ y → d ≡ theDate (readDay y) → d ≡ dateIn r
+date-read r y d q f = f ∙ ap (λ (z : ℕ). theDate (readDay z)) (sym q)
+
 module _ (t : AssignmentTotals) (r : List ℕ) (n : ℕ) (e : n ≡ recordCode r) where
   pub is-other : (n ≡ 30 → ⊥) → t ⊞ undated oneRecord ≡ t ⊞ brought r
   unfolding brought
   is-other h = ap (λ (b : Bool). t ⊞ (if b then dated (amountIn r) (dateIn r) else undated oneRecord)) (sym (ne-eqb (recordCode r) 30 (λ q. h (e ∙ q))))
 
-  pub is-thirty : n ≡ 30 → recordCode r ≡ 30
-  is-thirty h = sym e ∙ h
+  module _ (h : n ≡ 30) where
+    pub thirty-is : recordCode r ≡ 30
+    thirty-is = sym e ∙ h
 
-  module _ (h : n ≡ 30) (g : Growing t r) where
-    -- its fields have their digits
-    pub has-amount : every isDigit (part 33 49 r) ≡ false → ⊥
-    has-amount x = true≢false (sym (g .amount (is-thirty h)) ∙ x)
-
-    pub has-date : every isDigit (part 16 21 r) ≡ false → ⊥
-    has-date x = true≢false (sym (g .date (is-thirty h)) ∙ x)
-
-    pub takes : (x : ℕ) (d : Date) → value (part 33 49 r) ≡ x → Room (t .totals) (oneTransaction (amount x) d)
-    takes x d q =
+    pub takes : Growing t r → (x : Amount) (d : Date) → x ≡ amountIn r → Room (t .totals) (oneTransaction x d)
+    takes g x d q =
         record {
           assignments = omega (arith, g .bounded .assignments);
           transactions = omega (arith, g .bounded .transactions);
           records = omega (arith, g .bounded .records);
-          sum = omega (arith, g .sum (is-thirty h), q);
+          sum = omega (arith, g .sum thirty-is, ap (λ (y : Amount). y .0) q);
         }
 
-    pub is-paid : (x y : ℕ) (d : Date) → value (part 33 49 r) ≡ x → value (part 16 21 r) ≡ y → d ≡ theDate (readDay y) → t ⊞ dated (amount x) d ≡ t ⊞ brought r
+    pub is-paid : (x : Amount) (d : Date) → x ≡ amountIn r → d ≡ dateIn r → t ⊞ dated x d ≡ t ⊞ brought r
     unfolding brought
-    is-paid x y d p q f =
-        ap₂ (λ (u : ℕ) (v : Date). t ⊞ dated (amount u) v) (sym p) (f ∙ ap (λ (z : ℕ). theDate (readDay z)) (sym q))
-        ∙ ap (λ (b : Bool). t ⊞ (if b then dated (amountIn r) (dateIn r) else undated oneRecord)) (sym (eq-eqb (recordCode r) 30 (is-thirty h)))
+    is-paid x d p q =
+        ap₂ (λ (u : Amount) (v : Date). t ⊞ dated u v) p q
+        ∙ ap (λ (b : Bool). t ⊞ (if b then dated (amountIn r) (dateIn r) else undated oneRecord)) (sym (eq-eqb (recordCode r) 30 thirty-is))

@@ -5,9 +5,10 @@ ghost use mathlib.Core.Bool.{true};
 ghost use Prim.Native.Nat.{_*_, _/_, _≤_, _<_};
 ghost use lib.ListN.{length, take, drop};
 ghost use Rattle.dates.specs.Dates.{readDay};
+ghost use Rattle.fields.specs.Bytes.{every, isDigit, part};
 ghost use Rattle.figures.specs.Totals.{_⊞_};
 ghost use Rattle.operations.specs.Closing.{opens};
-ghost use Rattle.rules.specs.Payments.{theDate};
+ghost use Rattle.rules.specs.Payments.{theDate, dateIn, amountIn};
 ghost use Rattle.drafts.specs.Block.{brought, Growing, Ahead, Block};
 use dates::Date;
 use dates::Day;
@@ -31,6 +32,28 @@ fn date_from(n: u64) -> Date
     }
 }
 
+// The date of a record 30 whose field 6 is digits.
+pub fn date_in(r: &[u8]) -> Date
+    requires { ⌜ (length (now r) ≡ 81) × (every isDigit (part 16 21 (now r)) ≡ true) ⌝ }
+    ensures { λ x. ⌜ x ≡ dateIn (now (r .entry)) ⌝ }
+{
+    let Digits::Number(date) = fields::places::number_at(r, 16, 21) else {
+        return Date(0);
+    };
+    date_from(date)
+}
+
+// The amount of a record 30 whose field 8 is digits.
+pub fn amount_in(r: &[u8]) -> Amount
+    requires { ⌜ (length (now r) ≡ 81) × (every isDigit (part 33 49 (now r)) ≡ true) ⌝ }
+    ensures { λ x. ⌜ x ≡ amountIn (now (r .entry)) ⌝ }
+{
+    let Digits::Number(amount) = fields::places::number_at(r, 33, 49) else {
+        return Amount(0);
+    };
+    Amount(amount)
+}
+
 // The figures of an assignment behind one more of its records.
 fn grown(t: AssignmentTotals, r: &[u8]) -> AssignmentTotals
     requires { ⌜ (length (now r) ≡ 81) × Growing t (now r) ⌝ }
@@ -39,13 +62,7 @@ fn grown(t: AssignmentTotals, r: &[u8]) -> AssignmentTotals
     if fields::places::code_at(r, 7) != 30 {
         return t.with_record();
     }
-    let Digits::Number(amount) = fields::places::number_at(r, 33, 49) else {
-        return t;
-    };
-    let Digits::Number(date) = fields::places::number_at(r, 16, 21) else {
-        return t;
-    };
-    t.with_transaction(Amount(amount), date_from(date))
+    t.with_transaction(amount_in(r), date_in(r))
 }
 
 // The assignment whose record 20 stands behind the first `from` records.

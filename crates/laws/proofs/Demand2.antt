@@ -1,9 +1,9 @@
 -- Demand 2 for checking, on bytes: accepted exactly, else the first fault, and the figures are those of the records.
 -- Assumes nothing.
-use Prim.Native.Nat.{ℕ, _+_, _/_, _≤_, _<_}
+use Prim.Native.Nat.{ℕ, _+_, _/_, _≤_}
 use mathlib.Core.Path.{_≡_, refl, sym, ap, subst, _∙_}
 use mathlib.Core.Logic.{_↔_}
-use mathlib.Core.List.{List, [], _∷_, _++_}
+use mathlib.Core.List.{List, []}
 use mathlib.Core.Bool.{Bool, true, false}
 use native.Mathlib.Omega.{arith}
 use native.Mathlib.Nat.{zero-add}
@@ -16,18 +16,16 @@ use Rattle.dates.specs.declared.ProcessDay.{ProcessDay}
 use Rattle.dates.specs.declared.Window.{Window}
 use Rattle.dates.specs.declared.Opening.{Opening}
 use Rattle.dates.specs.declared.Opening.the-variants.{Open, NoDay}
-use Rattle.figures.specs.Totals.{none, _⊕_}
+use Rattle.figures.specs.Totals.{none}
 use Rattle.figures.specs.declared.totals.Totals.{Totals}
 use Rattle.figures.proofs.Laws.{none-⊕}
-use Rattle.rules.specs.Order.{mayEnd}
 use Rattle.rules.specs.Growth.{start}
-use Rattle.rules.specs.Run.{refused, ended, run, recordsOf, badLength, mostRecords, judge, onWindow, checkOf}
-use Rattle.rules.specs.declared.Assignment.{Assignment}
+use Rattle.rules.specs.Run.{refused, run, recordsOf, badLength, mostRecords, judge, onWindow, checkOf}
 use Rattle.rules.specs.declared.Mode.the-variants.{File}
 use Rattle.rules.specs.declared.Refusal.{Refusal}
 use Rattle.rules.specs.declared.Verdict.{Verdict}
 use Rattle.rules.specs.declared.Verdict.the-variants.{Accepted, Refused}
-use Rattle.laws.specs.Meets.{gains, turns, Meets, Ends, Lawful, Refusing, wrong-day, wrong-length, too-many, at-record, at-end}
+use Rattle.laws.specs.Meets.{gains, Lawful, Refusing, wrong-day, wrong-length, too-many, at-record, at-end}
 use Rattle.laws.specs.Plain.{FiguresOf}
 use Rattle.laws.proofs.Sound.{Ran, met, runs}
 use Rattle.laws.proofs.First.{Stops, stopped, cut-off, ungiven, stops}

@@ -1,13 +1,12 @@
 -- The running totals are the plain figures of the records: counted, summed, the least date.
 -- Assumes nothing.
-use Prim.Native.Nat.{ℕ, zero, suc, _+_, _≤_, _<_}
-use mathlib.Core.Path.{_≡_, refl, sym, ap, ap₂, subst, _∙_}
+use Prim.Native.Nat.{ℕ, _<_}
+use mathlib.Core.Path.{_≡_, refl, sym, ap, subst, _∙_}
 use mathlib.Core.List.{List, [], _∷_, _++_}
 use mathlib.Core.Bool.{Bool, true, false, false≢true}
 use native.Mathlib.Omega.{arith}
-use borrow.Author.Tests.{eqb-true, ltb-true, eq-eqb, ne-eqb}
+use borrow.Author.Tests.{eqb-true, ne-eqb}
 use lib.Dec.{eqb, ltb}
-use lib.ListN.{length}
 use Rattle.choice.specs.Choice.{if_then_else_}
 use Rattle.fields.specs.Bytes.{part}
 use Rattle.fields.specs.Numbers.{value}
@@ -17,18 +16,15 @@ use Rattle.dates.specs.declared.Day.{Day}
 use Rattle.dates.specs.declared.Day.the-variants.{On, NoDate}
 use Rattle.dates.specs.declared.Window.{Window}
 use Rattle.dates.proofs.Laws.{earlier-assoc, earlier-none, none-earlier, day-range}
-use Rattle.figures.specs.Totals.{none, _⊕_, oneRecord, oneAssignment, oneTransaction}
+use Rattle.figures.specs.Totals.{_⊕_, oneRecord, oneAssignment, oneTransaction}
 use Rattle.figures.specs.declared.totals.Totals.{Totals}
-use Rattle.layout.specs.Rows.{AllHold, must}
+use Rattle.layout.specs.Rows.{AllHold}
 use Rattle.rules.specs.Codes.{recordCode, kindFor, kindOf}
 use Rattle.rules.proofs.Codes.{at-codes}
-use Rattle.rules.specs.Order.{mayFollow}
 use Rattle.rules.specs.Payments.{isDay, theDate, dateIn, amountIn}
 use Rattle.rules.specs.Layouts.{rows, tableFor, record30}
 use Rattle.rules.specs.Growth.{gain, gainFor, turn, keys}
 use Rattle.rules.specs.declared.Assignment.{Assignment}
-use Rattle.rules.specs.declared.Kind.{Kind}
-use Rattle.rules.specs.declared.Kind.the-variants.{R30}
 use Rattle.rules.specs.declared.Mode.{Mode}
 use Rattle.laws.specs.Meets.{gains, Meets}
 use Rattle.laws.specs.Plain.{ofType, sumOf, least, leastDate, FiguresOf}

@@ -1,41 +1,32 @@
 -- A refusal names the first fault: in the table, then in the run, then of the whole input.
 -- Assumes nothing.
-use Prim.Native.Nat.{ℕ, zero, suc, _+_, _/_, _≤_, _<_}
-use mathlib.Core.Path.{_≡_, refl, sym, ap, ap₂, subst, _∙_}
-use mathlib.Core.Logic.{_⊎_, inl, inr, ⊎-elim}
+use Prim.Native.Nat.{ℕ, suc, _+_}
+use mathlib.Core.Path.{_≡_, refl, sym, ap, subst, _∙_}
 use mathlib.Core.List.{List, [], _∷_, _++_, append-nil, append-assoc}
 use mathlib.Core.Bool.{Bool, true, false}
-use native.Mathlib.Nat.{zero-add}
 use native.Mathlib.Omega.{arith}
-use borrow.Author.Tests.{leb-true, leb-false}
-use lib.Dec.{leb}
 use lib.ListN.{length}
 use Rattle.choice.specs.Choice.{if_then_else_}
-use Rattle.dates.specs.Windows.{windowOf}
-use Rattle.dates.specs.declared.ProcessDay.{ProcessDay}
 use Rattle.dates.specs.declared.Window.{Window}
-use Rattle.dates.specs.declared.Opening.{Opening}
-use Rattle.dates.specs.declared.Opening.the-variants.{Open, NoDay}
-use Rattle.figures.specs.Totals.{none, _⊕_}
+use Rattle.figures.specs.Totals.{_⊕_}
 use Rattle.figures.specs.declared.totals.Totals.{Totals}
-use Rattle.figures.proofs.Laws.{⊕-assoc, ⊕-none, none-⊕}
+use Rattle.figures.proofs.Laws.{⊕-assoc, ⊕-none}
 use Rattle.layout.specs.Rows.{Row, passes, firstFault, AllHold, rowNumber, rowField}
 use Rattle.layout.specs.declared.Finding.{Finding}
 use Rattle.layout.specs.declared.Finding.the-variants.{Sound, Fault}
 use Rattle.layout.proofs.Laws.{next, stop, ended, all-of-sound}
 use Rattle.rules.specs.Order.{mayEnd}
 use Rattle.rules.specs.Layouts.{rows}
-use Rattle.rules.specs.Growth.{gain, turn, keys, after, start}
+use Rattle.rules.specs.Growth.{gain, turn, keys, after}
 use Rattle.rules.specs.Run as R
-use Rattle.rules.specs.Run.{refused, stepped, stepOf, atEnd, onStep, run, recordsOf, badLength, mostRecords, judge, onWindow, checkOf}
+use Rattle.rules.specs.Run.{refused, stepped, stepOf, atEnd, onStep, run}
 use Rattle.rules.specs.declared.Assignment.{Assignment}
 use Rattle.rules.specs.declared.Mode.{Mode}
-use Rattle.rules.specs.declared.Mode.the-variants.{File, Draft}
 use Rattle.rules.specs.declared.Refusal.{Refusal}
 use Rattle.rules.specs.declared.State.{State}
 use Rattle.rules.specs.declared.Verdict.{Verdict}
 use Rattle.rules.specs.declared.Verdict.the-variants.{Accepted, Refused}
-use Rattle.laws.specs.Meets.{gains, turns, allKeys, Meets, FirstFault, Refusing, wrong-day, wrong-length, too-many, at-record, at-end}
+use Rattle.laws.specs.Meets.{gains, turns, allKeys, Meets, FirstFault}
 
 sound-not-fault : (n k : ℕ) → Sound ≡ Fault n k → ⊥
 sound-not-fault n k e = let z : _≡_ {A = ℕ} 0 1 = cc in omega arith

@@ -12,3 +12,13 @@ pub mod Closes
 pub mod Strips
 pub mod Closing
 pub mod View
+pub mod Keys
+pub mod Bodies
+pub mod Made
+pub mod Joins
+pub mod Joined
+pub mod Three
+pub mod Joining
+pub mod Cuts
+pub mod Parting
+pub mod OneAnswer

@@ -31,14 +31,14 @@ use Rattle.laws.specs.Stripped.{anEnd}
 use Rattle.laws.proofs.Types.{eachKind, of-kind, type-by}
 
 -- ---- what holds of each record type, service, transaction type and truth value holds of all
-abbrev eachBool : (Bool → Bool) → Bool
+abbrev pub eachBool : (Bool → Bool) → Bool
 eachBool p = p true && p false
 
 of-bool : (p : Bool → Bool) → eachBool p ≡ true → (b : Bool) → p b ≡ true
 of-bool p h true = and-left (p true) (p false) h
 of-bool p h false = and-right (p true) (p false) h
 
-abbrev eachService : (Service → Bool) → Bool
+abbrev pub eachService : (Service → Bool) → Bool
 eachService p = p Autogiro && p Remittance
 
 of-service : (p : Service → Bool) → eachService p ≡ true → (s : Service) → p s ≡ true
@@ -46,7 +46,7 @@ of-service p h Autogiro = and-left (p Autogiro) (p Remittance) h
 of-service p h Remittance = and-right (p Autogiro) (p Remittance) h
 
 -- a transaction type counts as 16, 4 or 3, or as any other
-abbrev types : List ℕ
+abbrev pub types : List ℕ
 types = 16 ∷ 4 ∷ 3 ∷ 0 ∷ []
 
 other-type : (m : Mode) (l : Kind) (s : Service) (t : ℕ) → eqb t 16 ≡ false → eqb t 4 ≡ false → eqb t 3 ≡ false → behind m l s t ≡ behind m l s 0
@@ -63,16 +63,16 @@ other-type m R89 s t p q r = refl
 other-type m Other s t p q r = refl
 
 -- a test of a place: whether the file has an assignment, the record before, the new record, and what may stand there
-abbrev Test : Type 0
+abbrev pub Test : Type 0
 Test = Bool → Kind → Kind → (Mode → Kind → Bool) → Bool
 
-abbrev at-place : Test → Bool → Kind → Kind → Service → ℕ → Bool
+abbrev pub at-place : Test → Bool → Kind → Kind → Service → ℕ → Bool
 at-place T b l k s t = T b l k (λ m j. member (numberOfKind j) (behind m l s t))
 
-abbrev everywhere : Test → Bool
+abbrev pub everywhere : Test → Bool
 everywhere T = eachBool (λ b. eachKind (λ l. eachKind (λ k. eachService (λ s. every (at-place T b l k s) types))))
 
-always : (T : Test) → everywhere T ≡ true → (b : Bool) (a : Assignment) (k : Kind) → T b (a .last) k (λ m j. mayFollow m a j) ≡ true
+pub always : (T : Test) → everywhere T ≡ true → (b : Bool) (a : Assignment) (k : Kind) → T b (a .last) k (λ m j. mayFollow m a j) ≡ true
 unfolding mayFollow
 always T h b a k =
     let l = a .last in
@@ -87,10 +87,10 @@ always T h b a k =
     at-code P 3 (a .code) (every-at (at-place T b l k s) types 2 h4 (lit< tt)) λ r.
     (λ i. T b l k (λ m j. member (numberOfKind j) (other-type m l s (a .code) p q r i))) ∙ every-at (at-place T b l k s) types 3 h4 (lit< tt)
 
-abbrev implies : Bool → Bool → Bool
+abbrev pub implies : Bool → Bool → Bool
 implies a b = not a || b
 
-mp : (a b : Bool) → implies a b ≡ true → a ≡ true → b ≡ true
+pub mp : (a b : Bool) → implies a b ≡ true → a ≡ true → b ≡ true
 mp a b h p = rw p at h
 
 -- a record of no type stands nowhere

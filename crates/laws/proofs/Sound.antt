@@ -1,31 +1,27 @@
 -- The run accepts exactly where every rule is met and the end may come; it splits over joined lists; and it names the first fault.
 -- Assumes nothing.
-use Prim.Native.Nat.{ℕ, zero, suc, _+_}
-use mathlib.Core.Path.{_≡_, refl, sym, ap, ap₂, subst, _∙_}
+use Prim.Native.Nat.{ℕ, _+_}
+use mathlib.Core.Path.{_≡_, refl, sym, ap, _∙_}
 use mathlib.Core.List.{List, [], _∷_, _++_, append-nil, append-assoc}
 use mathlib.Core.Bool.{Bool, true, false}
 use native.Mathlib.Omega.{arith}
-use lib.ListN.{length, length-append}
 use Rattle.choice.specs.Choice.{if_then_else_}
 use Rattle.dates.specs.declared.Window.{Window}
-use Rattle.figures.specs.Totals.{none, _⊕_}
+use Rattle.figures.specs.Totals.{_⊕_}
 use Rattle.figures.specs.declared.totals.Totals.{Totals}
 use Rattle.figures.proofs.Laws.{⊕-assoc, ⊕-none, none-⊕}
-use Rattle.layout.specs.Rows.{Row, passes, firstFault, AllHold, rowNumber, rowField}
+use Rattle.layout.specs.Rows.{firstFault}
 use Rattle.layout.specs.declared.Finding.{Finding}
 use Rattle.layout.specs.declared.Finding.the-variants.{Sound, Fault}
-use Rattle.layout.proofs.Laws.{next, stop, sound-of-all, all-of-sound}
+use Rattle.layout.proofs.Laws.{sound-of-all, all-of-sound}
 use Rattle.rules.specs.Order.{mayEnd}
 use Rattle.rules.specs.Layouts.{rows}
-use Rattle.rules.specs.Growth.{gain, turn, keys, after, start}
+use Rattle.rules.specs.Growth.{gain, turn, keys, after}
 use Rattle.rules.specs.Run.{refused, stepped, stepOf, ended, atEnd, onStep, run}
 use Rattle.rules.specs.declared.Assignment.{Assignment}
 use Rattle.rules.specs.declared.Mode.{Mode}
 use Rattle.rules.specs.declared.Refusal.{Refusal}
 use Rattle.rules.specs.declared.State.{State}
-use Rattle.rules.specs.declared.Step.{Step}
-use Rattle.rules.specs.declared.Step.the-variants.{Next, Stop}
-use Rattle.rules.specs.declared.Verdict.{Verdict}
 use Rattle.rules.specs.declared.Verdict.the-variants.{Accepted, Refused}
 use Rattle.laws.specs.Meets.{gains, turns, allKeys, Meets, Ends}
 

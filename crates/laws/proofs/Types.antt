@@ -3,8 +3,8 @@
 use Prim.Native.Nat.{ℕ}
 use mathlib.Core.Path.{_≡_, refl, sym, ap, _∙_}
 use mathlib.Core.List.{List, [], _∷_}
-use mathlib.Core.Bool.{Bool, true, false≢true}
-use borrow.Author.Tests.{eqb-true}
+use mathlib.Core.Bool.{Bool, true, false, false≢true}
+use borrow.Author.Tests.{eqb-true, eqb-false, eq-eqb, ne-eqb}
 use lib.Dec.{eqb, lit<}
 use Rattle.fields.specs.Bytes.{every}
 use Rattle.fields.proofs.Every.{every-at}
@@ -69,6 +69,14 @@ told n =
 pub code-is : (r : List ℕ) (k : Kind) → kindOf r ≡ k → (k ≡ Other → ⊥) → recordCode r ≡ numberOfKind k
 unfolding Told
 code-is r k e o = told (recordCode r) (λ x. o (sym e ∙ x)) ∙ ap numberOfKind e
+
+-- a record's type has a number exactly where its code is that number
+pub type-test : (r : List ℕ) (k : Kind) → (k ≡ Other → ⊥) → eqb (numberOfKind (kindOf r)) (numberOfKind k) ≡ eqb (recordCode r) (numberOfKind k)
+type-test r k o = go (eqb (recordCode r) (numberOfKind k)) refl
+  where
+    go : (b : Bool) → eqb (recordCode r) (numberOfKind k) ≡ b → eqb (numberOfKind (kindOf r)) (numberOfKind k) ≡ b
+    go true e = eq-eqb _ _ (ap numberOfKind (type-of (recordCode r) (numberOfKind k) e ∙ again k))
+    go false e = ne-eqb _ _ (λ h. eqb-false _ _ e (code-is r k (sym (again (kindOf r)) ∙ ap kindFor h ∙ again k) o))
 
 -- an end's code
 pub no-other : (k : Kind) → anEnd (numberOfKind k) ≡ true → k ≡ Other → ⊥

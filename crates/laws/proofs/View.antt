@@ -156,7 +156,7 @@ viewed day b t e =
 
 -- ---- and what has a view is accepted
 module _ (w : Window) (head : List ℕ) (body : List (List ℕ)) (g : Good w head body) where
-  made-sized : Sized (made head body)
+  pub made-sized : Sized (made head body)
   unfolding made Sized
   made-sized = (g .head-sized, sized-join body (end89 (figuresOf body) ∷ []) (g .sized) (sized-89 (oneRecord ⊕ gains body), tt))
 

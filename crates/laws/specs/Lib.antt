@@ -3,3 +3,6 @@ pub mod Plain
 pub mod Fits
 pub mod Stripped
 pub mod View
+pub mod Joinable
+pub mod Partable
+pub mod Promises

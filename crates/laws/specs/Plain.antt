@@ -1,9 +1,8 @@
 -- Demand 2: the reported figures are those of the records, each by a plain definition of its own: counted, summed, the least.
 -- Assumes nothing.
-use Prim.Native.Nat.{ℕ, suc, _+_}
+use Prim.Native.Nat.{ℕ, _+_}
 use mathlib.Core.Path.{_≡_}
 use mathlib.Core.List.{List, [], _∷_}
-use mathlib.Core.Bool.{Bool, true, false}
 use lib.Dec.{eqb, ltb}
 use lib.ListN.{length}
 use Rattle.choice.specs.Choice.{if_then_else_}

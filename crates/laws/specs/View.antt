@@ -2,11 +2,10 @@
 -- Assumes nothing.
 use Prim.Native.Nat.{ℕ, _+_, _≤_}
 use mathlib.Core.Path.{_≡_}
-use mathlib.Core.List.{List, [], _∷_, _++_}
+use mathlib.Core.List.{List, [], _∷_}
 use lib.ListN.{length}
 use Rattle.dates.specs.declared.Window.{Window}
-use Rattle.figures.specs.Totals.{none, _⊕_, oneRecord}
-use Rattle.figures.specs.declared.totals.Totals.{Totals}
+use Rattle.figures.specs.Totals.{none, oneRecord}
 use Rattle.layout.specs.Rows.{AllHold}
 use Rattle.rules.specs.Codes.{kindOf}
 use Rattle.rules.specs.Layouts.{rows}
@@ -17,7 +16,7 @@ use Rattle.rules.specs.declared.Kind.the-variants.{R10, R88}
 use Rattle.rules.specs.declared.Mode.the-variants.{File}
 pub use Rattle.operations.specs.Parting.{figuresOf}
 unfoldable pub use Rattle.operations.specs.Parting.{made}
-use Rattle.laws.specs.Meets.{gains, turns, Meets}
+use Rattle.laws.specs.Meets.{turns, Meets}
 
 -- every record has 81 bytes
 unfoldable pub Sized : List (List ℕ) → Type 0

@@ -10,10 +10,10 @@ use lib.ListN.{length, getD, take, drop, set, length-append, length-take, length
 use Rattle.fields.specs.Numbers.{written}
 use Rattle.writing.specs.Parts.{headBytes, figureBytes}
 use Rattle.fields.proofs.Values.{written-length}
-use Rattle.dates.specs.Dates.{ddmmyy}
+use Rattle.dates.specs.Dates.{date, ddmmyy}
 use Rattle.dates.specs.declared.Date.{Date}
 use Rattle.figures.specs.declared.totals.Totals.{Totals}
-use Rattle.operations.specs.Ends.{endRecord}
+use Rattle.operations.specs.Ends.{endRecord, end89}
 use lib.Seq.{set-split, take-at, drop-at, drop-drop, drop-cons, take-suc, set-at, append-snoc, take-all}
 
 -- out is d with a written over its start
@@ -159,3 +159,19 @@ figures-length t last = simp (length-append, written-length)
 pub end-length : (service type : ℕ) (t : Totals) (last : Date) → length (endRecord service type t last) ≡ 81
 end-length service type t last =
     sym (ap length (record-is service type t last)) ∙ length-append (headBytes service type) (figureBytes t last) ∙ ap₂ _+_ (head-length service type) (figures-length t last)
+
+-- ---- a file: its start, its assignments, its 89, one behind the other
+pub file-put : (d start body one two last : List ℕ) (t : Totals) → length start + length body + 81 ≤ length d
+    → one ≡ start ++ drop (length start) d
+    → two ≡ body ++ drop (length body) (take (length one - length start) (drop (length start) one))
+    → last ≡ end89 t ++ drop 81 (take (length (putMid (length start) (length one - length start) one two) - (length start + length body)) (drop (length start + length body) (putMid (length start) (length one - length start) one two)))
+    → putMid (length start + length body) (length (putMid (length start) (length one - length start) one two) - (length start + length body)) (putMid (length start) (length one - length start) one two) last
+    ≡ (start ++ (body ++ end89 t)) ++ drop (length start + length body + 81) d
+file-put d start body one two last t room p q r =
+    let el = end-length 0 89 t (date 0) in
+    let sl = length-append start body in
+    let w1 = at-first start d one (length start) refl (omega arith) p in
+    let w2 = behind start d one body two (length start) (length body) w1 refl refl (omega arith) q in
+    let w3 = behind (start ++ body) d _ (end89 t) last (length start + length body) 81 w2 (sym sl) (sym el) (omega (arith, sl, el)) r in
+    told _ (start ++ (body ++ end89 t)) d _ (length start + length body + 81) w3 (append-assoc start body (end89 t))
+    (sym (ap length (append-assoc start body (end89 t))) ∙ length-append (start ++ body) (end89 t) ∙ ap₂ _+_ sl el)

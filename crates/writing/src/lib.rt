@@ -5,7 +5,7 @@ ghost use mathlib.Core.List.{[], _∷_, _++_};
 ghost use Prim.Native.Nat.{_+_, _≤_};
 ghost use lib.ListN.{length, take, drop};
 ghost use Rattle.fields.specs.Numbers.{written};
-ghost use Rattle.operations.specs.Ends.{endRecord};
+ghost use Rattle.operations.specs.Ends.{endRecord, end89};
 ghost use Rattle.writing.specs.Parts.{headBytes, figureBytes};
 use dates::Date;
 use figures::totals::Totals;
@@ -77,4 +77,16 @@ pub fn put_end(out: &mut [u8], service: u64, kind: u64, t: Totals, last: Date)
 {
     put_head(out, service, kind);
     put_figures(&mut out[8..], t, last);
+}
+
+// A file over the start of an output: its start, its assignments, and its 89.
+pub fn put_file(out: &mut [u8], start: &[u8], body: &[u8], t: Totals)
+    requires { ⌜ length (now start) + length (now body) + 81 ≤ length (now out) ⌝ }
+    ensures { λ _. ⌜ now (out .exit) ≡ (now (start .entry) ++ (now (body .entry) ++ end89 t)) ++ drop (length (now (start .entry)) + length (now (body .entry)) + 81) (now (out .entry)) ⌝ }
+{
+    let from = start.len();
+    let to = from + body.len();
+    copy_to(out, start);
+    copy_to(&mut out[from..], body);
+    put_end(&mut out[to..], 0, 89, t, Date(0));
 }

@@ -1,0 +1,136 @@
+-- What parting answers, in the order of its refusals, and what it leaves in both outputs.
+-- Assumes nothing.
+use Prim.Native.Nat.{ℕ, zero, suc, _+_, _-_, _*_, _/_, _≤_, _<_}
+use mathlib.Core.Path.{_≡_, refl, sym, ap, ap₂, subst, _∙_}
+use mathlib.Core.List.{List, [], _∷_}
+use mathlib.Core.Bool.{Bool, true, false, _&&_, and-false}
+use native.Mathlib.Omega.{arith}
+use borrow.Author.Tests.{le-leb, lt-leb, lt-ltb, le-ltb}
+use lib.Dec.{leb, ltb}
+use lib.ListN.{length, take, drop, length-take, length-drop}
+use lib.Seq.{take-nil}
+use Rattle.choice.specs.Choice.{if_then_else_}
+use Rattle.dates.specs.declared.ProcessDay.{ProcessDay}
+use Rattle.dates.specs.declared.Window.{Window}
+use Rattle.figures.specs.Totals.{oneRecord}
+use Rattle.figures.specs.declared.totals.Totals.{Totals}
+use Rattle.laws.specs.Meets.{Meets}
+use Rattle.laws.specs.View.{headed, Good}
+use Rattle.laws.proofs.Bytes.{bytes-length}
+use Rattle.laws.proofs.Frame.{fitted}
+use Rattle.laws.proofs.Made.{fileOf, file-length, file-body, body-records}
+use Rattle.laws.proofs.View.{viewed}
+use Rattle.layout.specs.Rows.{AllHold}
+use Rattle.operations.specs.Joining.{assignmentsOf}
+use Rattle.operations.specs.Parting.{ofCheck, notParted, firstPart, secondPart, partOf, lentParted, partedFirst, partedSecond}
+use Rattle.operations.specs.declared.Parting.{Parting}
+use Rattle.operations.specs.declared.Parting.the-variants.{Parted, NotParted}
+use Rattle.rules.specs.Codes.{recordCode, kindOf}
+use Rattle.rules.specs.Growth.{gain, turn, keys}
+use Rattle.rules.specs.Layouts.{tableFor, rows, record30}
+use Rattle.rules.specs.Run.{recordsOf, checkOf}
+use Rattle.rules.specs.declared.Assignment.{Assignment}
+use Rattle.rules.specs.declared.Kind.{Kind}
+use Rattle.rules.specs.declared.Mode.{Mode}
+use Rattle.rules.specs.declared.Mode.the-variants.{File}
+use Rattle.rules.specs.declared.Refusal.{Refusal}
+use Rattle.rules.specs.declared.Verdict.{Verdict}
+use Rattle.rules.specs.declared.Verdict.the-variants.{Accepted, Refused}
+use Rattle.drafts.proofs.Within.{kind-thirty}
+use Rattle.summing.specs.Sums.{Readable, AllReadable, Summable}
+use Rattle.parting.specs.Halves.{Divisible, firstHalf, secondHalf, divided}
+
+-- ---- records that meet the rules can be read again
+readable : (m : Mode) (w : Window) (f : Totals) (ks : List ℕ) (a : Assignment) (r : List ℕ) → AllHold f ks r (rows m w a r) → Readable r
+unfolding AllHold
+readable m w f ks a r h = record { amount = λ e. thirty e .1 .1 .1 .1 .1 .1 .1 .1 .1 .1 .1 .0; date = λ e. thirty e .1 .1 .1 .1 .1 .1 .0 }
+  where
+    thirty : recordCode r ≡ 30 → AllHold f ks r (record30 w a r)
+    thirty e = subst (λ (k : Kind). AllHold f ks r (tableFor k w a r)) (kind-thirty (recordCode r) e) (h .1 .1)
+
+all-readable : (m : Mode) (w : Window) (f : Totals) (ks : List ℕ) (a : Assignment) (rs : List (List ℕ)) → Meets m w f ks a rs → AllReadable rs
+unfolding Meets AllReadable
+all-readable m w f ks a [] h = tt
+all-readable m w f ks a (r ∷ rs) h = (readable m w f ks a r (h .0), all-readable m w _ (_) (turn r a) rs (h .1))
+
+-- ---- the assignments of a file as the code takes them out
+drop-take : (n m : ℕ) (l : List ℕ) → drop n (take m l) ≡ take (m - n) (drop n l)
+drop-take zero m l = let e : m ≡ m - 0 = omega arith in ap (λ (x : ℕ). take x l) e
+drop-take (suc n) zero l = let e : zero - suc n ≡ 0 = omega arith in sym (ap (λ (x : ℕ). take x (drop (suc n) l)) e)
+drop-take (suc n) (suc m) [] = sym (take-nil (suc m - suc n))
+drop-take (suc n) (suc m) (x ∷ l) = let e : m - n ≡ suc m - suc n = omega arith in drop-take n m l ∙ ap (λ (y : ℕ). take y (drop n l)) e
+
+abbrev pub bodyIn : List ℕ → List ℕ
+bodyIn b = take (length b - 81 - 81) (drop 81 b)
+
+body-is : (b : List ℕ) → bodyIn b ≡ assignmentsOf b
+body-is b = sym (drop-take 81 (length b - 81) b)
+
+module _ (day : ProcessDay) (b : List ℕ) (t : Totals) (e : checkOf day b ≡ Accepted t) where
+  pub long-enough : 162 ≤ length b
+  long-enough =
+      let v = viewed day b t e in
+      omega (arith, ap length (v .bytes), file-length (v .window) (v .head) (v .body) (v .good))
+
+  pub divisible : Divisible (take 81 b) (bodyIn b)
+  divisible =
+      let v = viewed day b t e in
+      let g = v .good in
+      let i : recordsOf (bodyIn b) ≡ v .body = ap recordsOf (body-is b) ∙ ap (λ (x : List ℕ). recordsOf (assignmentsOf x)) (v .bytes) ∙ body-records (v .window) (v .head) (v .body) g in
+      let l : length (bodyIn b) ≡ 81 * length (v .body) =
+      ap length (body-is b ∙ ap assignmentsOf (v .bytes) ∙ file-body (v .window) (v .head) (v .body) g) ∙ bytes-length (v .body) (g .sized) in
+      let s = fitted File (v .window) oneRecord [] headed (v .body) (omega arith) (omega arith) (g .meets) in
+      record {
+        ten = length-take 81 b ∙ omega (arith, long-enough);
+        whole = omega (arith, l);
+        summable = subst Summable (sym i) (record { each = all-readable File (v .window) oneRecord [] headed (v .body) (g .meets); few = omega (arith, g .few); sum = omega (arith, s .sums) });
+      }
+
+-- ---- the answer, and both outputs behind it
+module _ (day : ProcessDay) (b : List ℕ) (k : ℕ) (first second : List ℕ) where
+  abbrev pub Promised : Parting → List ℕ → List ℕ → Type 0
+  Promised x one two = (x ≡ partOf day b k (length first) (length second)) × (one ≡ partedFirst day b k first second) × (two ≡ partedSecond day b k first second)
+
+  leaves : (x : Parting) (r : Refusal) → x ≡ NotParted r → partOf day b k (length first) (length second) ≡ NotParted r → Promised x first second
+  unfolding partedFirst partedSecond lentParted
+  leaves x r e q =
+      (e ∙ sym q, ap (λ (y : Parting). lentParted y (firstPart k b) first) (sym q), ap (λ (y : Parting). lentParted y (secondPart k b) second) (sym q))
+
+  abbrev behindCheck : Totals → Parting
+  behindCheck t =
+      if leb 1 k && ltb k (t .assignments .0) then (if leb (length (firstPart k b)) (length first) && leb (length (secondPart k b)) (length second) then Parted else notParted 19)
+      else notParted 21
+
+  module _ (v : Verdict) (c : v ≡ checkOf day b) where
+    pub was-refused : (r : Refusal) → v ≡ Refused r → Promised (NotParted r) first second
+    unfolding partOf
+    was-refused r e = leaves (NotParted r) r refl (ap (λ (y : Verdict). ofCheck y behindCheck) (sym c ∙ e))
+
+    module _ (t : Totals) (e : v ≡ Accepted t) where
+      checked : checkOf day b ≡ Accepted t
+      checked = sym c ∙ e
+
+      by-boundary : partOf day b k (length first) (length second) ≡ (if leb 1 k && ltb k (t .assignments .0) then divided (take 81 b) (assignmentsOf b) k (length first) (length second) else notParted 21)
+      unfolding partOf divided firstHalf secondHalf firstPart secondPart
+      by-boundary = ap (λ (y : Verdict). ofCheck y behindCheck) checked
+
+      pub below : (x : Parting) → x ≡ notParted 21 → k ≡ 0 → Promised x first second
+      below x q z = leaves x _ q (by-boundary ∙ ap (λ (y : Bool). if (y && ltb k (t .assignments .0)) then divided (take 81 b) (assignmentsOf b) k (length first) (length second) else notParted 21) (lt-leb 1 k (omega (arith, z))))
+
+      pub above : (x : Parting) → x ≡ notParted 21 → t .assignments .0 ≤ k → Promised x first second
+      above x q z =
+          leaves x _ q
+          (by-boundary
+          ∙ ap (λ (y : Bool). if y then divided (take 81 b) (assignmentsOf b) k (length first) (length second) else notParted 21) (ap (λ (y : Bool). leb 1 k && y) (le-ltb k (t .assignments .0) z) ∙ and-false (leb 1 k)))
+
+      pub parts : (k ≡ 0 → ⊥) → k < t .assignments .0 → (x : Parting) (one two : List ℕ) → x ≡ divided (take 81 b) (bodyIn b) k (length first) (length second)
+          → one ≡ lentParted x (firstHalf (take 81 b) (bodyIn b) k) first → two ≡ lentParted x (secondHalf (take 81 b) (bodyIn b) k) second → Promised x one two
+      unfolding partedFirst partedSecond firstHalf secondHalf firstPart secondPart
+      parts n h x one two d i j =
+          let q : x ≡ partOf day b k (length first) (length second) =
+          d ∙ ap (λ (y : List ℕ). divided (take 81 b) y k (length first) (length second)) (body-is b)
+          ∙ sym (by-boundary ∙ ap₂ (λ (y z : Bool). if (y && z) then divided (take 81 b) (assignmentsOf b) k (length first) (length second) else notParted 21) (le-leb 1 k (omega (arith, n))) (lt-ltb k (t .assignments .0) h)) in (
+            q,
+            i ∙ ap₂ (λ (y : Parting) (z : List ℕ). lentParted y (firstHalf (take 81 b) z k) first) q (body-is b),
+            j ∙ ap₂ (λ (y : Parting) (z : List ℕ). lentParted y (secondHalf (take 81 b) z k) second) q (body-is b),
+          )
