@@ -1,11 +1,7 @@
 //! The proved operations, through the archive of crate `pay_c`. What the
 //! archive does not have answers nothing.
 
-use reference::cases::{Case, Operation};
-
-/// What (0 refused, 1 accepted, 2 parted), number, operand, record, field,
-/// assignments, transactions, records, sum, first date; 0 where it does not apply.
-pub type Answer = [u64; 10];
+use reference::cases::{Answer, Case, Operation};
 
 /// Nothing of this is a number that an operation could leave standing.
 const UNANSWERED: Answer = [0xAAAA_AAAA_AAAA_AAAA; 10];
@@ -67,7 +63,7 @@ pub fn ask(case: &Case, out1: &mut [u8], out2: &mut [u8]) -> Option<Answer> {
     asked(case, out1, out2, answer.as_mut_ptr()).then_some(answer)
 }
 
-#[allow(unused_variables)]
+#[allow(unused_variables, unreachable_code)]
 fn asked(case: &Case, out1: &mut [u8], out2: &mut [u8], answer: *mut u64) -> bool {
     let (year, month, day) = case.day;
     let (first, first_len) = (case.first.as_ptr(), case.first.len());

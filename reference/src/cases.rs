@@ -5,7 +5,7 @@ use crate::damage::damage;
 use crate::random::Random;
 use crate::records::{self, closed, count, file_of, long_file};
 use crate::sample::{DAY, Plan, days, sound_draft};
-use crate::{Day, RECORD};
+use crate::{Accepted, Day, RECORD, Refused, Variant};
 
 #[derive(Clone, Copy, Debug, PartialEq, Eq)]
 pub enum Operation {
@@ -44,6 +44,36 @@ impl Case {
     fn new(operation: Operation, day: Day, first: Vec<u8>) -> Self {
         Self { operation, day, first, second: Vec::new(), k: 0, rooms: [0, 0] }
     }
+}
+
+/// What (0 refused, 1 accepted, 2 parted), number, operand, record, field,
+/// assignments, transactions, records, sum, first date; 0 where it does not apply.
+pub type Answer = [u64; 10];
+
+fn accepted(figures: Accepted) -> Answer {
+    let Accepted { assignments, transactions, records, sum, first_date } = figures;
+    let [assignments, transactions, records, first_date] =
+        [assignments, transactions, records, first_date].map(u64::from);
+    [1, 0, 0, 0, 0, assignments, transactions, records, sum, first_date]
+}
+
+fn refused(refused: Refused) -> Answer {
+    let Refused { number, operand, record, field } = refused;
+    [0, number.into(), operand.into(), record.into(), field.into(), 0, 0, 0, 0, 0]
+}
+
+/// The answer of a variant, the outputs being lent to it.
+pub fn answer(case: &Case, variant: Variant, out1: &mut [u8], out2: &mut [u8]) -> Answer {
+    let Case { operation, day, first, second, k, .. } = case;
+    let answer = match operation {
+        Operation::Check => (variant.check)(*day, first).map(accepted),
+        Operation::Close => (variant.close)(*day, first, out1).map(accepted),
+        Operation::Join => (variant.join)(*day, first, second, out1).map(accepted),
+        Operation::Part => {
+            (variant.part)(*day, first, *k, out1, out2).map(|_| [2, 0, 0, 0, 0, 0, 0, 0, 0, 0])
+        }
+    };
+    answer.unwrap_or_else(refused)
 }
 
 /// The case of this index. Large ones come up once in some thousands.

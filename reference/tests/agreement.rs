@@ -3,10 +3,11 @@
 mod common;
 
 use common::*;
-use reference::RECORD;
+use reference::cases::{Operation, answer, case};
 use reference::damage::damage;
 use reference::random::Random;
 use reference::sample::{Plan, file};
+use reference::{RECORD, Variant};
 
 fn plan(seed: u64) -> Plan {
     let mut random = Random(seed);
@@ -98,4 +99,21 @@ fn joined_files() {
         let drafts = [draft(&a), draft(&b)[RECORD..].to_vec()].concat();
         assert!(out[..length] == closed(&drafts));
     }
+}
+
+/// Cases as the comparison with the archive has them: the variants answer
+/// alike and write alike, and every refusal comes up.
+#[test]
+fn cases_of_every_operation() {
+    let mut seen = [0u32; 22];
+    for index in 0..40_000 {
+        let case = case(1, index, &Operation::ALL);
+        let [plain, fast] = [Variant::PLAIN, Variant::FAST].map(|variant| {
+            let [mut one, mut two] = case.rooms.map(|room| vec![0xEE; room]);
+            (answer(&case, variant, &mut one, &mut two), one, two)
+        });
+        assert!(plain == fast, "case {index}: {:?} {:?}", plain.0, fast.0);
+        seen[plain.0[1] as usize] += 1;
+    }
+    assert!(seen.iter().all(|&count| count > 0), "{seen:?}");
 }

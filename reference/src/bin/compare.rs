@@ -7,9 +7,8 @@
 #[path = "../archive.rs"]
 mod archive;
 
-use archive::Answer;
-use reference::cases::{Case, Operation, case};
-use reference::{Accepted, RECORD, Refused, Variant, vectors};
+use reference::cases::{Answer, Case, Operation, answer, case};
+use reference::{RECORD, Variant, vectors};
 use std::collections::BTreeMap;
 use std::process::ExitCode;
 
@@ -39,30 +38,11 @@ struct Outcome {
     outputs: [Vec<u8>; 2],
 }
 
-fn accepted(figures: Accepted) -> Answer {
-    let Accepted { assignments, transactions, records, sum, first_date } = figures;
-    let [assignments, transactions, records, first_date] =
-        [assignments, transactions, records, first_date].map(u64::from);
-    [1, 0, 0, 0, 0, assignments, transactions, records, sum, first_date]
-}
-
-fn refused(refused: Refused) -> Answer {
-    let Refused { number, operand, record, field } = refused;
-    [0, number.into(), operand.into(), record.into(), field.into(), 0, 0, 0, 0, 0]
-}
-
 /// The answer of this implementation.
 fn expected(case: &Case, variant: Variant) -> Outcome {
     let [mut one, mut two] = case.rooms.map(Lent::new);
-    let Case { operation, day, first, second, k, .. } = case;
-    let answer = match operation {
-        Operation::Check => (variant.check)(*day, first).map(accepted),
-        Operation::Close => (variant.close)(*day, first, one.out()).map(accepted),
-        Operation::Join => (variant.join)(*day, first, second, one.out()).map(accepted),
-        Operation::Part => (variant.part)(*day, first, *k, one.out(), two.out())
-            .map(|_| [2, 0, 0, 0, 0, 0, 0, 0, 0, 0]),
-    };
-    Outcome { answer: answer.unwrap_or_else(refused), outputs: [one.all, two.all] }
+    let answer = answer(case, variant, one.out(), two.out());
+    Outcome { answer, outputs: [one.all, two.all] }
 }
 
 /// The answer of the archive, which has this operation. Its inputs stay.
