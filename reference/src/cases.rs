@@ -147,7 +147,8 @@ fn damaged(random: &mut Random, mut data: Vec<u8>) -> Vec<u8> {
 }
 
 fn random_bytes(random: &mut Random) -> Vec<u8> {
-    let length = random.pick(&[0, 1, 80, 81, 82, 162, 405, 486, 1 + random.clone().index(900)]);
+    let any = random.index(900);
+    let length = random.pick(&[0, 1, 80, 81, 82, 162, 405, 486, any]);
     (0..length).map(|_| random.draw() as u8).collect()
 }
 
@@ -312,7 +313,7 @@ fn small(random: &mut Random, operation: Operation) -> Case {
 fn sums_together(random: &mut Random) -> (Vec<u8>, Vec<u8>) {
     let one = random.below(records::MOST + 1);
     let other = records::MOST - one + random.pick(&[0, 0, 1, 2]);
-    let (one, other) = (one, other.min(records::MOST));
+    let other = other.min(records::MOST);
     (file_of("01", &[(1, 1)], one), file_of("01", &[(1, 2)], other))
 }
 

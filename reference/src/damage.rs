@@ -274,7 +274,10 @@ pub fn damage(random: &mut Random, data: &mut Vec<u8>) {
         }
         22 => change_type(random, data, record),
         _ if random.percent(50) => data.truncate(random.index(data.len() + 1)),
-        _ => data.extend(random.digits(1 + random.clone().index(100)).bytes()),
+        _ => {
+            let length = 1 + random.index(100);
+            data.extend(random.digits(length).bytes());
+        }
     }
 }
 
