@@ -1,0 +1,262 @@
+//! Times the proved operations and this implementation in one process, turn by
+//! turn: on a season's file, and on files of other sizes. `bench [PICTURE.svg]`
+//! also draws how the cost grows.
+
+#[path = "../archive.rs"]
+mod archive;
+#[path = "../picture.rs"]
+mod picture;
+
+use picture::{Line, Panel};
+use reference::cases::{Case, Operation, answer};
+use reference::sample::{DAY, Plan, draft_and_file};
+use reference::{RECORD, Variant};
+use std::hint::black_box;
+use std::time::Instant;
+
+const RUNS: usize = 15;
+/// The growth is measured in rounds over all files, so that what else the
+/// machine does for a while does not bend the lines.
+const ROUNDS: usize = 5;
+
+/// What a piece of work takes, in seconds.
+#[derive(Clone, Copy)]
+struct Times {
+    median: f64,
+    /// What it takes when nothing else runs on the machine.
+    best: f64,
+}
+
+impl Times {
+    fn of(mut seconds: Vec<f64>) -> Self {
+        seconds.sort_by(f64::total_cmp);
+        Self { median: seconds[seconds.len() / 2], best: seconds[0] }
+    }
+}
+
+/// Seconds for one of so many repetitions.
+fn time(times: usize, mut work: impl FnMut()) -> f64 {
+    let start = Instant::now();
+    (0..times).for_each(|_| work());
+    start.elapsed().as_secs_f64() / times as f64
+}
+
+/// An operation to be timed. Its outputs are just long enough.
+struct Work {
+    case: Case,
+    /// Of the file that is checked, written or parted.
+    records: usize,
+}
+
+impl Work {
+    fn ask_archive(&self, out1: &mut [u8], out2: &mut [u8]) {
+        let answer = archive::ask(black_box(&self.case), out1, out2).expect("it has the operation");
+        assert!(answer[0] != 0, "refused: {answer:?}");
+    }
+
+    fn ask_reference(&self, out1: &mut [u8], out2: &mut [u8]) {
+        let answer = answer(black_box(&self.case), Variant::PLAIN, out1, out2);
+        assert!(answer[0] != 0, "refused: {answer:?}");
+    }
+
+    /// The archive's times, if it has the operation, and this implementation's.
+    fn times(&self, runs: usize) -> (Option<Times>, Times) {
+        let [mut out1, mut out2] = self.case.rooms.map(|room| vec![0; room]);
+        let has = archive::operations().contains(&self.case.operation);
+        if has {
+            self.ask_archive(&mut out1, &mut out2);
+        }
+        self.ask_reference(&mut out1, &mut out2);
+        let repeats = (20_000 / self.records).max(1);
+        let (mut of_archive, mut of_reference) = (Vec::new(), Vec::new());
+        for _ in 0..runs {
+            if has {
+                of_archive.push(time(repeats, || self.ask_archive(&mut out1, &mut out2)));
+            }
+            of_reference.push(time(repeats, || self.ask_reference(&mut out1, &mut out2)));
+        }
+        (has.then(|| Times::of(of_archive)), Times::of(of_reference))
+    }
+}
+
+/// The four operations on one sound file. What has no boundary is not joined
+/// from parts, nor parted.
+fn works(plan: Plan) -> Vec<Work> {
+    let (draft, file) = draft_and_file(plan);
+    let records = file.len() / RECORD;
+    let case = |operation, first: &[u8], rooms| {
+        let (first, second) = (first.to_vec(), Vec::new());
+        Case { operation, day: DAY, first, second, k: 0, rooms }
+    };
+    let mut cases = vec![
+        case(Operation::Check, &file, [0, 0]),
+        case(Operation::Close, &draft, [file.len(), 0]),
+    ];
+    if plan.assignments > 1 {
+        let k = u64::from(plan.assignments / 2);
+        let [mut one, mut two] = [vec![0; file.len()], vec![0; file.len()]];
+        let parted = reference::part(DAY, &file, k, &mut one, &mut two).expect("a boundary");
+        one.truncate(parted.first);
+        two.truncate(parted.second);
+        let rooms = [one.len(), two.len()];
+        cases.push(Case { second: two, ..case(Operation::Join, &one, [file.len(), 0]) });
+        cases.push(Case { k, ..case(Operation::Part, &file, rooms) });
+    }
+    cases.into_iter().map(|case| Work { case, records }).collect()
+}
+
+fn per_record(seconds: f64, records: usize) -> f64 {
+    seconds * 1e9 / records as f64
+}
+
+fn row(name: &str, who: &str, times: Times, records: usize) -> String {
+    format!(
+        "{name:<7} {who:<10} {:>9.2} {:>9.2} {:>9.2} {:>9.0}",
+        times.median * 1e3,
+        per_record(times.median, records),
+        per_record(times.best, records),
+        (records * RECORD) as f64 / times.median / 1e6
+    )
+}
+
+/// The processor's name, where the system tells it.
+fn processor() -> String {
+    let text = std::fs::read_to_string("/proc/cpuinfo").unwrap_or_default();
+    let name = text.lines().find_map(|line| line.strip_prefix("model name")?.split_once(": "));
+    name.map_or("unknown".into(), |(_, name)| name.to_string())
+}
+
+fn season() {
+    let (_, file) = draft_and_file(Plan::SEASON);
+    let figures = reference::check(DAY, &file).expect("the season's file is sound");
+    let records = file.len() / RECORD;
+    println!("processor: {}; median and best of {RUNS} runs, turn by turn", processor());
+    println!(
+        "season's file: {records} records, {} bytes, {} assignments, {} transactions",
+        file.len(),
+        figures.assignments,
+        figures.transactions
+    );
+    println!("                      ms  ns/record      best      MB/s  archive : reference");
+    for work in works(Plan::SEASON) {
+        let name = work.case.operation.name();
+        let (of_archive, of_reference) = work.times(RUNS);
+        match of_archive {
+            Some(times) => println!(
+                "{}  {:.2} : 1 (best {:.2} : 1)",
+                row(name, "archive", times, records),
+                times.median / of_reference.median,
+                times.best / of_reference.best
+            ),
+            None => println!("{name:<7} archive    has it not"),
+        }
+        println!("{}", row(name, "reference", of_reference, records));
+    }
+    let mut out = vec![0; file.len()];
+    let mut copy = || time(1, || black_box(&mut out).copy_from_slice(black_box(&file)));
+    copy();
+    let copies = (0..RUNS).map(|_| copy()).collect();
+    println!("{}", row("memcpy", "floor", Times::of(copies), records));
+}
+
+/// The operations on one file, and their best times in ns for a record: the
+/// archive's, without end where it has not the operation, and the reference's.
+struct Spot {
+    at: usize,
+    works: Vec<(Work, [f64; 2])>,
+}
+
+impl Spot {
+    fn new(at: usize, plan: Plan) -> Self {
+        let works = works(plan).into_iter().map(|work| (work, [f64::INFINITY; 2]));
+        Self { at, works: works.collect() }
+    }
+
+    fn measure(&mut self) {
+        for (work, best) in &mut self.works {
+            let (of_archive, of_reference) = work.times(RUNS / ROUNDS);
+            for (best, times) in best.iter_mut().zip([of_archive, Some(of_reference)]) {
+                if let Some(times) = times {
+                    *best = best.min(per_record(times.best, work.records));
+                }
+            }
+        }
+    }
+
+    fn print(&self, what: &str) {
+        let mut text = format!("{:>7} {what}", self.at);
+        for (work, best) in &self.works {
+            text += &format!("  {:<5}", work.case.operation.name());
+            for value in best {
+                text += &if value.is_finite() { format!(" {value:>5.1}") } else { "     -".into() };
+            }
+        }
+        println!("{text}");
+    }
+}
+
+/// A line for each operation by the archive, and one by the reference.
+fn lines(spots: &[Spot]) -> Vec<Line> {
+    let line = |operation: Operation, who: usize| {
+        let of = |spot: &Spot| {
+            let (_, best) = spot.works.iter().find(|(work, _)| work.case.operation == operation)?;
+            best[who].is_finite().then_some((spot.at as f64, best[who]))
+        };
+        Line {
+            name: format!("{} {}", operation.name(), ["archive", "reference"][who]),
+            dashed: who == 1,
+            points: spots.iter().filter_map(of).collect(),
+        }
+    };
+    Operation::ALL
+        .into_iter()
+        .flat_map(|operation| [0, 1].map(|who| line(operation, who)))
+        .collect()
+}
+
+/// Measures the files in rounds and prints a line for each.
+fn grown(mut spots: Vec<Spot>, what: &str) -> Vec<Line> {
+    for _ in 0..ROUNDS {
+        spots.iter_mut().for_each(Spot::measure);
+    }
+    spots.iter().for_each(|spot| spot.print(what));
+    lines(&spots)
+}
+
+fn growth() -> [Panel; 2] {
+    println!("\nns for a record (best of {RUNS}): archive, reference");
+    let spots = [1_000, 10_000, 100_000, 200_000].map(|records| {
+        let assignments = (records as u32 / 4_444).max(2);
+        Spot::new(records, Plan::like_a_season(records, assignments))
+    });
+    let by_records = grown(spots.into(), "records");
+
+    println!("\nthe same, 20000 records in so many assignments");
+    let spots = [1, 2, 10, 50, 100, 200, 300, 400, 500].map(|assignments| {
+        Spot::new(assignments as usize, Plan::like_a_season(20_000, assignments))
+    });
+    let by_assignments = grown(spots.into(), "assignments");
+    [
+        Panel {
+            title: "ns for a record, by the records of the file".into(),
+            logarithmic: true,
+            marks: vec![1e3, 1e4, 1e5, 2e5],
+            lines: by_records,
+        },
+        Panel {
+            title: "ns for a record, 20,000 records, by assignments".into(),
+            logarithmic: false,
+            marks: vec![1., 100., 200., 300., 400., 500.],
+            lines: by_assignments,
+        },
+    ]
+}
+
+fn main() -> std::io::Result<()> {
+    season();
+    let panels = growth();
+    match std::env::args().nth(1) {
+        Some(path) => std::fs::write(path, picture::svg(&panels)),
+        None => Ok(()),
+    }
+}

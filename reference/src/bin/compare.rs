@@ -1,0 +1,240 @@
+//! Asks the proved operations and this implementation the same, case by case,
+//! and compares all that they answer and every byte that they were lent.
+//!
+//! `compare N SEED` runs N cases. `compare case SEED INDEX` runs one of them
+//! and prints it. `compare vectors FOLDER` runs the vectors in FOLDER.
+
+#[path = "../archive.rs"]
+mod archive;
+
+use reference::cases::{Answer, Case, Operation, answer, case};
+use reference::{RECORD, Variant, vectors};
+use std::collections::BTreeMap;
+use std::process::ExitCode;
+
+/// Bytes around a lent output that nobody may touch.
+const MARGIN: usize = 96;
+
+/// An output with margins, filled so that no byte is like its neighbours.
+struct Lent {
+    all: Vec<u8>,
+}
+
+impl Lent {
+    fn new(room: usize) -> Self {
+        Self { all: (0..room + 2 * MARGIN).map(|i| (i * 151 + i / 256 * 7 + 13) as u8).collect() }
+    }
+
+    fn out(&mut self) -> &mut [u8] {
+        let end = self.all.len() - MARGIN;
+        &mut self.all[MARGIN..end]
+    }
+}
+
+/// An answer, and all that is then in and around the outputs.
+#[derive(PartialEq, Eq)]
+struct Outcome {
+    answer: Answer,
+    outputs: [Vec<u8>; 2],
+}
+
+/// The answer of this implementation.
+fn expected(case: &Case, variant: Variant) -> Outcome {
+    let [mut one, mut two] = case.rooms.map(Lent::new);
+    let answer = answer(case, variant, one.out(), two.out());
+    Outcome { answer, outputs: [one.all, two.all] }
+}
+
+/// The answer of the archive, which has this operation. Its inputs stay.
+fn found(case: &Case) -> Outcome {
+    let [mut one, mut two] = case.rooms.map(Lent::new);
+    let before = case.clone();
+    let answer = archive::ask(case, one.out(), two.out()).expect("the archive has the operation");
+    assert!(before.first == case.first && before.second == case.second, "an input was changed");
+    Outcome { answer, outputs: [one.all, two.all] }
+}
+
+fn differs(case: &Case) -> bool {
+    found(case) != expected(case, Variant::PLAIN)
+}
+
+/// The case without some records of one of its inputs, if it has them.
+fn without(case: &Case, of_second: bool, from: usize, records: usize) -> Option<Case> {
+    let mut smaller = case.clone();
+    let data = if of_second { &mut smaller.second } else { &mut smaller.first };
+    let (from, to) = (from * RECORD, (from + records) * RECORD);
+    (to <= data.len()).then(|| data.drain(from..to).count())?;
+    Some(smaller)
+}
+
+/// Leaves out runs of records, long ones first, as long as the answers still
+/// differ.
+fn smallest(mut case: Case) -> Case {
+    let mut run = case.first.len().max(case.second.len()) / RECORD;
+    while run > 0 {
+        for of_second in [false, true] {
+            let mut from = 0;
+            while let Some(smaller) = without(&case, of_second, from, run) {
+                if differs(&smaller) {
+                    case = smaller;
+                } else {
+                    from += 1;
+                }
+            }
+        }
+        run /= 2;
+    }
+    case
+}
+
+fn show(name: &str, data: &[u8]) {
+    println!("{name}: {} bytes", data.len());
+    for record in data.chunks(RECORD).take(60) {
+        println!("  {}", record.escape_ascii());
+    }
+}
+
+fn report(case: &Case) {
+    println!(
+        "{} day {:?} k {} outputs of {:?} bytes",
+        case.operation.name(),
+        case.day,
+        case.k,
+        case.rooms
+    );
+    show("first", &case.first);
+    show("second", &case.second);
+    let (expected, found) = (expected(case, Variant::PLAIN), found(case));
+    println!("reference {:?}\narchive   {:?}", expected.answer, found.answer);
+    for (name, a, b) in [
+        ("first", &expected.outputs[0], &found.outputs[0]),
+        ("second", &expected.outputs[1], &found.outputs[1]),
+    ] {
+        if let Some(at) = a.iter().zip(b).position(|(a, b)| a != b) {
+            let place = at as i64 - MARGIN as i64;
+            println!("{name} output: byte {place} is {} and {}", a[at], b[at]);
+        }
+    }
+}
+
+/// The type of the record that a refusal names.
+fn record_type(case: &Case, answer: &Answer) -> String {
+    let [_, _, operand, record, ..] = *answer;
+    let data = if operand == 2 { &case.second } else { &case.first };
+    let at = (record as usize).wrapping_sub(1).wrapping_mul(RECORD);
+    match data.get(at + 6..at + 8) {
+        _ if record == 0 => "-".into(),
+        None => "end".into(),
+        Some(kind @ (b"10" | b"20" | b"30" | b"31" | b"40" | b"49" | b"50" | b"88" | b"89")) => {
+            String::from_utf8_lossy(kind).into()
+        }
+        Some(_) => "none".into(),
+    }
+}
+
+/// How often each sort of answer was given.
+#[derive(Default)]
+struct Histogram(BTreeMap<(&'static str, u64, u64, u64, String), u64>);
+
+impl Histogram {
+    fn add(&mut self, case: &Case, answer: &Answer) {
+        let [_, number, operand, _, field, ..] = *answer;
+        let key = (case.operation.name(), number, operand, field, record_type(case, answer));
+        *self.0.entry(key).or_default() += 1;
+    }
+
+    fn print(&self) {
+        println!("operation  number operand field record     cases");
+        for ((operation, number, operand, field, kind), count) in &self.0 {
+            match number {
+                0 => println!("{operation:<9}  sound {count:>31}"),
+                _ => println!(
+                    "{operation:<9}  {number:>6} {operand:>7} {field:>5} {kind:>6} {count:>9}"
+                ),
+            }
+        }
+    }
+}
+
+/// The operations that can be compared; says which cannot.
+fn operations() -> Vec<Operation> {
+    let operations = archive::operations();
+    for operation in Operation::ALL {
+        if !operations.contains(&operation) {
+            println!("left out: {} (not in the archive)", operation.name());
+        }
+    }
+    if operations.is_empty() {
+        println!("no archive: make it with `rt staticlib pay_c`, or name it in PAY_C");
+    }
+    operations
+}
+
+/// Runs the vectors of a folder, from v000 on.
+fn run_vectors(folder: &str) -> ExitCode {
+    let operations = operations();
+    let (mut asked, mut differ) = (0, 0);
+    for index in 0..1000 {
+        let name = format!("v{index:03}");
+        let Ok(vector) = std::fs::read(std::path::Path::new(folder).join(&name)) else { break };
+        let case = vectors::read(&vector).expect("a vector");
+        if operations.contains(&case.operation) {
+            asked += 1;
+            if differs(&case) {
+                differ += 1;
+                println!("{name} differs");
+                report(&case);
+            }
+        }
+    }
+    println!("{asked} vectors, {differ} differ");
+    if asked > 0 && differ == 0 { ExitCode::SUCCESS } else { ExitCode::FAILURE }
+}
+
+fn run(cases: u64, seed: u64) -> ExitCode {
+    let operations = operations();
+    if operations.is_empty() {
+        return ExitCode::from(2);
+    }
+    let mut histogram = Histogram::default();
+    for index in 0..cases {
+        let case = case(seed, index, &operations);
+        let expected = expected(&case, Variant::PLAIN);
+        histogram.add(&case, &expected.answer);
+        if self::expected(&case, Variant::FAST) != expected {
+            println!("case {index} of seed {seed}: the plain and the fast variant differ");
+            return ExitCode::FAILURE;
+        }
+        if found(&case) != expected {
+            println!("case {index} of seed {seed} differs; again: compare case {seed} {index}");
+            println!("the smallest found:");
+            report(&smallest(case));
+            return ExitCode::FAILURE;
+        }
+    }
+    histogram.print();
+    println!("{cases} cases, 0 differ");
+    ExitCode::SUCCESS
+}
+
+fn main() -> ExitCode {
+    let words: Vec<String> = std::env::args().skip(1).collect();
+    let words: Vec<&str> = words.iter().map(String::as_str).collect();
+    let number = |word: &str| word.parse::<u64>().ok();
+    match words[..] {
+        ["case", seed, index] => match (number(seed), number(index)) {
+            (Some(seed), Some(index)) => {
+                report(&case(seed, index, &archive::operations()));
+                return ExitCode::SUCCESS;
+            }
+            _ => eprintln!("compare case SEED INDEX"),
+        },
+        ["vectors", folder] => return run_vectors(folder),
+        [cases, seed] => match (number(cases), number(seed)) {
+            (Some(cases), Some(seed)) => return run(cases, seed),
+            _ => eprintln!("compare N SEED"),
+        },
+        _ => eprintln!("compare N SEED, compare case SEED INDEX, or compare vectors FOLDER"),
+    }
+    ExitCode::from(2)
+}

@@ -1,0 +1,434 @@
+//! Makes the outside vectors: keeps those for checking, makes those for
+//! closing, joining and parting anew, and answers every one of them.
+//!
+//! `vectors FOLDER`: the vectors lie in FOLDER/data, the lines in FOLDER/stdout.
+
+use reference::cases::{Case, Operation};
+use reference::records::*;
+use reference::sample::{DAY, Plan, draft_and_file};
+use reference::{Day, RECORD, vectors};
+use std::path::Path;
+use std::{fs, io};
+
+fn close_on(day: Day, draft: &[u8], room: usize) -> Case {
+    let operation = Operation::Close;
+    Case { operation, day, first: draft.to_vec(), second: vec![], k: 0, rooms: [room, 0] }
+}
+
+fn join_on(day: Day, first: &[u8], second: &[u8], room: usize) -> Case {
+    let (first, second) = (first.to_vec(), second.to_vec());
+    Case { operation: Operation::Join, day, first, second, k: 0, rooms: [room, 0] }
+}
+
+fn part_on(day: Day, file: &[u8], k: u64, rooms: [usize; 2]) -> Case {
+    Case { operation: Operation::Part, day, first: file.to_vec(), second: vec![], k, rooms }
+}
+
+/// Closed into an output that is just long enough.
+fn close(draft: &[u8]) -> Case {
+    let starts = count(draft, b"20");
+    close_on(DAY, draft, draft.len() + (starts + 1) * RECORD)
+}
+
+/// Joined into an output that is just long enough.
+fn join(first: &[u8], second: &[u8]) -> Case {
+    join_on(DAY, first, second, (first.len() + second.len()).saturating_sub(2 * RECORD))
+}
+
+/// How long the parts of a sound file are.
+fn parts(file: &[u8], k: u64) -> [usize; 2] {
+    let ends = (1..).zip(file.chunks(RECORD)).filter(|(_, record)| kind(record) == *b"88");
+    let boundary = ends.map(|(index, _)| index).nth(k as usize - 1).expect("so many assignments");
+    [(boundary + 1) * RECORD, (file.len() / RECORD - boundary + 1) * RECORD]
+}
+
+/// Parted into outputs that are just long enough.
+fn part(file: &[u8], k: u64) -> Case {
+    part_on(DAY, file, k, parts(file, k))
+}
+
+fn twin() -> Vec<u8> {
+    with(&whole(), 2, 18, "0000002")
+}
+
+/// One transaction of each type.
+fn every_type() -> Vec<u8> {
+    let mut lines = vec![r10(), r20("04", 4, 4)];
+    let types = ["01", "02", "03", "04", "12", "16", "18", "32", "37", "62", "65", "66"];
+    for (number, code) in (1..).zip(types) {
+        let date = format!("{number:02}1225");
+        lines.push(r30("04", code, number, &date, 1000, if code == "12" { "42" } else { "" }));
+        lines.push(r31("04", code, number));
+        match code {
+            "03" | "04" => lines.push(r40(code, number)),
+            "16" => lines.extend([r50("16", number, 1500), r50("17", number, 500)]),
+            _ => {}
+        }
+    }
+    lines.push(r20("01", 4, 5));
+    for (number, code) in (1..).zip(["02", "03"]) {
+        lines.push(r30("01", code, number, "150126", 7, "0123456789"));
+        lines.push(r31("01", code, number));
+    }
+    for place in 0..42 {
+        lines.push(r49(2, place % 21 + 1, place / 21 + 1));
+    }
+    bytes(&lines)
+}
+
+/// A draft with these sub-specifications, and what follows them.
+fn group(amount: u64, parts: &[(&str, u64)], behind: &[String]) -> Vec<u8> {
+    let mut lines = vec![r10(), r20("04", 1, 1)];
+    lines.push(r30("04", "16", 1, "011125", amount, ""));
+    lines.push(r31("04", "16", 1));
+    lines.extend(parts.iter().map(|(code, amount)| r50(code, 1, *amount)));
+    lines.extend_from_slice(behind);
+    bytes(&lines)
+}
+
+/// A draft of transfers with these amounts.
+fn transfers(service: &str, amounts: &[u64]) -> Vec<u8> {
+    let mut lines = vec![r10(), r20(service, 1, 1)];
+    for (number, &amount) in (1..).zip(amounts) {
+        lines.extend(transfer(service, number, "011125", amount));
+    }
+    bytes(&lines)
+}
+
+/// A draft with a claim in each of its assignments.
+fn claims(amounts: &[u64]) -> Vec<u8> {
+    let mut lines = vec![r10()];
+    for (assignment, &amount) in (1..).zip(amounts) {
+        lines.push(r20("01", 1, assignment));
+        lines.extend(transfer("01", 1, "011125", amount));
+    }
+    bytes(&lines)
+}
+
+fn dated(assignment: u32, date: &str) -> Vec<u8> {
+    let mut lines = vec![r10(), r20("04", 2, assignment)];
+    lines.extend(transfer("04", 1, date, 5));
+    closed(&bytes(&lines))
+}
+
+fn keys(from: u32, to: u32) -> Vec<(u32, u32)> {
+    (from..to).map(|i| (i * 7919 % 1000, i)).collect()
+}
+
+fn sound(seed: u64, assignments: u32) -> (Vec<u8>, Vec<u8>) {
+    let plan = Plan {
+        seed,
+        day: DAY,
+        assignments,
+        transactions: 1 + seed as u32 % 4,
+        records: None,
+        extras: 40,
+        extremes: seed.is_multiple_of(2),
+    };
+    draft_and_file(plan)
+}
+
+/// Sound drafts, into outputs of every length.
+fn sound_closings() -> Vec<Case> {
+    let draft = draft(&whole());
+    let rooms = [0, 1, 80, 81, 405, 485, 486, 487, 567, 1000];
+    let mut cases: Vec<Case> = rooms.map(|room| close_on(DAY, &draft, room)).into();
+    let kinds = reference::records::draft(&every_kind());
+    for room in [1943, 1944, 1945, 9999] {
+        cases.push(close_on(DAY, &kinds, room));
+    }
+    cases.extend([close(&every_type()), close(&claims(&[1, 2, 3, 4, 5]))]);
+    for (seed, assignments) in [(1, 1), (2, 2), (3, 3), (4, 4), (5, 6), (6, 7), (8, 2), (10, 3)] {
+        cases.push(close(&sound(seed, assignments).0));
+    }
+    // Dates by the calendar; limits; the longest that fits; a leap day.
+    let dates = [("010126", 1), ("311225", 2), ("280226", 3)];
+    let mut lines = vec![r10(), r20("04", 1, 1)];
+    dates.iter().for_each(|(date, number)| lines.extend(transfer("04", *number, date, 1)));
+    cases.push(close(&bytes(&lines)));
+    cases.push(close(&transfers("04", &[9_999_999_999_998, 1])));
+    cases.push(close(&transfers("01", &[MOST, 0])));
+    cases.push(close(&claims(&[MOST - 5, 5])));
+    cases.push(close(&group(5, &[("17", MOST - 5), ("16", MOST), ("16", 0)], &[])));
+    cases.push(close(&reference::records::draft(&file_of("04", &keys(0, 490), 3))));
+    let leap = with(&draft, 3, 16, "280225");
+    cases.push(close_on((2024, 2, 29), &leap, 486));
+    cases
+}
+
+/// Drafts that are refused, each for another reason.
+fn refused_closings() -> Vec<Case> {
+    let draft = draft(&whole());
+    let kinds = reference::records::draft(&every_kind());
+    // The kinds without end records: 15 is the second 20, 16 30 (03), 18 and 19
+    // 49, 20 30 (02).
+    let mut cases: Vec<Case> = [(2025, 2, 31), (2025, 0, 0), (2025, 13, 32), (2025, 2, 29)]
+        .map(|day| close_on(day, &draft, 486))
+        .into();
+    cases.extend([&draft[..0], &draft[..80], &draft[..82], &draft[..323]].map(close));
+    let fields: &[(usize, usize, &str)] = &[
+        // 4, and 4 before 5.
+        (1, 81, "\r"),
+        (4, 81, "x"),
+        (21, 81, "x"),
+        // 5
+        (1, 7, "20"),
+        (2, 7, "30"),
+        (3, 7, "49"),
+        (4, 7, "32"),
+        (5, 7, "30"),
+        (9, 7, "88"),
+        (15, 7, "89"),
+        // 7
+        (1, 1, "XX"),
+        (1, 31, "1"),
+        (2, 3, "02"),
+        (3, 5, "05"),
+        (5, 5, "18"),
+        (18, 16, "2"),
+        (18, 17, "022"),
+        (19, 20, "3"),
+        (14, 80, "1"),
+        // 8
+        (1, 16, "x"),
+        (2, 18, " "),
+        (4, 20, "\u{7f}"),
+        (9, 46, "015 "),
+        (9, 50, "1"),
+        (5, 40, " "),
+        (20, 50, "1"),
+        (16, 22, "  1 3456789"),
+        // 9 and 10
+        (3, 16, "310425"),
+        (7, 16, "021026"),
+        (20, 16, "300924"),
+        // 11
+        (2, 35, "4"),
+        (10, 22, "00000000060"),
+        // 12
+        (3, 3, "01"),
+        (4, 5, "02"),
+        (6, 15, "6"),
+        (7, 15, "7"),
+        (16, 9, "0000000"),
+        // 13
+        (3, 33, "00000000000000000"),
+        (7, 33, "00000010000000000"),
+        (10, 33, "00010000000000000"),
+        // 14 at the next 30
+        (6, 57, "1"),
+        // 15, before 11
+        (15, 18, "0000001"),
+        // 17
+        (19, 17, "0011"),
+    ];
+    for &(record, from, text) in fields {
+        cases.push(close(&with(&kinds, record, from, text)));
+    }
+    // A file with its ends, or with one of them.
+    cases.extend([close(&whole()), close(&every_kind()), close(&whole()[..405])]);
+    // 6: cut behind 10, 20, 30, and where a 50 or a 40 has to follow.
+    cases.extend([81, 162, 243].map(|length| close(&draft[..length])));
+    cases.extend([close(&kinds[..4 * 81]), close(&kinds[..8 * 81])]);
+    // 13 by sums.
+    cases.push(close(&transfers("04", &[9_999_999_999_999, 1])));
+    cases.push(close(&transfers("01", &[MOST, 0, 1])));
+    cases.push(close(&claims(&[MOST - 5, 6])));
+    cases.push(close(&group(5, &[("16", MOST), ("16", 1)], &[])));
+    // 14 at the end, at the next 20; behind 5, before the fields.
+    let next = r20("04", 2, 2);
+    cases.push(close(&group(80_000, &[("16", 50_000), ("16", 40_000)], &[])));
+    cases.push(close(&group(5, &[("17", 5)], std::slice::from_ref(&next))));
+    cases.push(close(&group(5, &[("16", 4)], &[next.replace("20000", "31000")])));
+    cases.push(close(&group(5, &[("16", 4)], &[next.replace("NY", "XX")])));
+    // 500 and 501 assignments; the output is too short for either.
+    for assignments in [500, 501] {
+        let file = file_of("04", &keys(0, assignments), 3);
+        cases.push(close_on(DAY, &reference::records::draft(&file), 160_000));
+    }
+    // 15 by the first of many; 15 before 11; 17 before 8; a fault before 19.
+    let mut repeated = keys(0, 40);
+    repeated[39] = repeated[0];
+    cases.push(close(&reference::records::draft(&file_of("01", &repeated, 3))));
+    cases.push(close(&with(&with(&kinds, 15, 18, "0000001"), 15, 35, "4")));
+    cases.push(close(&with(&with(&kinds, 19, 17, "0011"), 19, 21, "\u{1}")));
+    cases.push(close_on(DAY, &with(&kinds, 20, 80, "1"), 0));
+    cases
+}
+
+/// A file for each refusal that a check of this length can give.
+fn refused_files() -> Vec<Vec<u8>> {
+    let file = every_kind();
+    let without = |record: usize| [&file[..(record - 1) * 81], &file[record * 81..]].concat();
+    vec![
+        file[..file.len() - 1].to_vec(),
+        with(&file, 10, 81, "x"),
+        without(4),
+        without(24),
+        with(&file, 20, 20, "3"),
+        with(&file, 9, 46, "015 "),
+        with(&file, 13, 16, "310225"),
+        with(&file, 21, 16, "300924"),
+        with(&file, 16, 35, "4"),
+        with(&file, 22, 15, "9"),
+        with(&file, 7, 33, "00000010000000000"),
+        with(&file, 6, 57, "1"),
+        with(&file, 16, 18, "0000001"),
+        with(&file, 20, 17, "0011"),
+        with(&file, 23, 41, "9"),
+        with(&file, 24, 24, "5"),
+    ]
+}
+
+fn sound_joinings() -> Vec<Case> {
+    let (file, twin) = (whole(), twin());
+    // Document 01's runs, into outputs of every length.
+    let mut cases: Vec<Case> =
+        [810, 0, 1, 809, 811, 2000].map(|room| join_on(DAY, &file, &twin, room)).into();
+    cases.extend([join(&file, &file), join(&twin, &file), join(&twin, &twin)]);
+    let kinds = every_kind();
+    cases.extend([join(&kinds, &file), join(&file, &kinds)]);
+    // The first file's record 10 stays.
+    cases.push(join(&file, &with(&twin, 1, 17, "9999999")));
+    cases.push(join(&with(&file, 1, 17, "0000000"), &twin));
+    // The earlier first date, of the first or of the second.
+    cases.push(join(&dated(1, "010126"), &dated(2, "311225")));
+    cases.push(join(&dated(1, "311225"), &dated(2, "010126")));
+    cases.push(join(&dated(1, "280226"), &dated(2, "280226")));
+    // Three files, the one or the other two first.
+    let third = with(&file, 2, 18, "0000003");
+    let (left, right) = (joined(&file, &twin), joined(&twin, &third));
+    cases.extend([join(&left, &third), join(&file, &right)]);
+    for seed in 0..10 {
+        let seed = 2 * seed + 1;
+        let (first, second) = (sound(seed, 1 + seed as u32 % 5).1, sound(seed + 100, 2).1);
+        cases.push(join(&first, &second));
+    }
+    // The sum at its limit, and the most assignments that fit.
+    cases.push(join(&closed(&claims(&[MOST - 5])), &file_of("01", &[(2, 1)], 5)));
+    cases.push(join(&file_of("04", &keys(0, 489), 1), &file_of("04", &[(5, 1)], 1)));
+    cases
+}
+
+/// The two put together by hand.
+fn joined(first: &[u8], second: &[u8]) -> Vec<u8> {
+    closed(&[draft(first), draft(second)[RECORD..].to_vec()].concat())
+}
+
+fn refused_joinings() -> Vec<Case> {
+    let (file, twin) = (whole(), twin());
+    let mut cases = vec![
+        join_on((2025, 2, 30), &file, &twin, 810),
+        join_on((2025, 0, 0), &[], &[], 0),
+        join(&[], &[]),
+        join(&[], &file),
+        join(&file, &[]),
+    ];
+    // A fault of the first, of the second, of both.
+    let faults = refused_files();
+    cases.extend(faults.iter().map(|fault| join(fault, &file)));
+    cases.extend(faults.iter().map(|fault| join(&file, fault)));
+    cases.extend([join(&faults[15], &faults[0]), join(&faults[3], &faults[3])]);
+    // Senders; they go behind the second file's faults and before a shared key.
+    let other = with(&twin, 1, 16, "6");
+    cases.extend([
+        join(&file, &other),
+        join(&other, &file),
+        join(&file, &with(&other, 2, 24, "1")),
+    ]);
+    cases.push(join(&file, &with(&other, 5, 24, "9")));
+    // Shared keys: the second's first such 20 counts.
+    let of = |keys: &[(u32, u32)]| file_of("04", keys, 10);
+    let three = of(&[(1, 1), (1, 2), (1, 3)]);
+    cases.push(join(&three, &of(&[(9, 9), (1, 3), (1, 1)])));
+    cases.push(join(&three, &of(&[(9, 9), (9, 8), (1, 1)])));
+    cases.push(join(&three, &of(&[(1, 2), (9, 8), (9, 9)])));
+    cases.push(join(&three, &of(&[(2, 1), (2, 2), (0, 3)])));
+    cases.push(join(&three, &file_of("01", &[(3, 3), (1, 3)], 10)));
+    cases.push(join_on(DAY, &three, &of(&[(1, 3)]), 0));
+    // 500 assignments together are too long for the output, 501 too many; a
+    // shared key before that, the sum behind it.
+    let first = file_of("04", &keys(0, 250), 1);
+    for (from, to) in [(250, 500), (250, 501), (249, 500)] {
+        cases.push(join_on(DAY, &first, &file_of("04", &keys(from, to), 1), 160_000));
+    }
+    // The sum past its limit, before 19.
+    let most = closed(&claims(&[MOST - 5]));
+    for (amount, room) in [(6, 810), (6, 0), (5, 0), (MOST, 810)] {
+        cases.push(join_on(DAY, &most, &file_of("01", &[(2, 1)], amount), room));
+    }
+    cases
+}
+
+fn partings() -> Vec<Case> {
+    let pair = joined(&whole(), &twin());
+    let mut cases = vec![part(&pair, 1)];
+    // One short, both short, longer, nothing.
+    for rooms in [[485, 486], [486, 485], [485, 485], [487, 486], [600, 900], [0, 486], [486, 0]] {
+        cases.push(part_on(DAY, &pair, 1, rooms));
+    }
+    // No boundary; before 19.
+    for (file, k) in [(&whole(), 0), (&whole(), 1), (&pair, 0), (&pair, 2), (&pair, 999_999)] {
+        cases.push(part_on(DAY, file, k, [810, 810]));
+        cases.push(part_on(DAY, file, k, [0, 0]));
+    }
+    // Every boundary.
+    for (seed, assignments) in [(1, 5), (2, 6), (3, 3), (4, 4), (7, 2)] {
+        let file = sound(seed, assignments).1;
+        cases.extend((1..u64::from(assignments)).map(|k| part(&file, k)));
+        let over = u64::from(assignments);
+        cases.push(part_on(DAY, &file, over, [file.len(), file.len()]));
+    }
+    let kinds = every_kind();
+    cases.extend([part(&kinds, 1), part_on(DAY, &kinds, 2, [2000, 2000])]);
+    let long = file_of("04", &keys(0, 490), 7);
+    cases.extend([1, 245, 489].map(|k| part(&long, k)));
+    // The first date of each part.
+    let dates = joined(&joined(&dated(1, "010126"), &dated(2, "311225")), &dated(3, "280226"));
+    cases.extend([part(&dates, 1), part(&dates, 2)]);
+    // The check's refusals, before 21 and 19.
+    cases.extend(refused_files().iter().map(|file| part_on(DAY, file, 1, [2000, 2000])));
+    cases.push(part_on((2025, 11, 31), &pair, 1, [486, 486]));
+    cases.push(part_on(DAY, &[], 0, [0, 0]));
+    cases.push(part_on(DAY, &kinds[..81], 0, [0, 0]));
+    cases.push(part_on((2024, 10, 31), &pair, 1, [486, 486]));
+    cases
+}
+
+fn name(index: usize) -> String {
+    format!("v{index:03}")
+}
+
+fn main() -> io::Result<()> {
+    let folder = std::env::args().nth(1).expect("vectors FOLDER");
+    let (data, stdout) = (Path::new(&folder).join("data"), Path::new(&folder).join("stdout"));
+    let is_kept = |index: usize| {
+        fs::read(data.join(name(index))).is_ok_and(|vector| vector.starts_with(b"check "))
+    };
+    let kept = (0..1000).take_while(|&index| is_kept(index)).count();
+    (kept..1000).for_each(|index| drop(fs::remove_file(data.join(name(index)))));
+
+    let groups = [
+        ("close", [sound_closings(), refused_closings()].concat()),
+        ("join", [sound_joinings(), refused_joinings()].concat()),
+        ("part", partings()),
+    ];
+    println!("{kept} check vectors kept");
+    let mut index = kept;
+    for (operation, cases) in groups {
+        println!("{} {operation} vectors made, {} on", cases.len(), name(index));
+        for case in cases {
+            fs::write(data.join(name(index)), vectors::written(&case))?;
+            index += 1;
+        }
+    }
+    assert!(index <= 1000, "a name has three digits");
+
+    let mut lines = String::new();
+    for index in 0..index {
+        let vector = fs::read(data.join(name(index)))?;
+        let answer = vectors::read(&vector).map_or("no vector".into(), |case| vectors::line(&case));
+        lines += &format!("{} {answer}\n", name(index));
+    }
+    fs::write(stdout, lines)
+}

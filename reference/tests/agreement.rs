@@ -1,0 +1,119 @@
+//! Files by chance: the variants agree, and the operations with one another.
+
+mod common;
+
+use common::*;
+use reference::cases::{Operation, answer, case};
+use reference::damage::damage;
+use reference::random::Random;
+use reference::sample::{Plan, file};
+use reference::{RECORD, Variant};
+
+fn plan(seed: u64) -> Plan {
+    let mut random = Random(seed);
+    Plan {
+        seed,
+        day: DAY,
+        assignments: 1 + random.below(6) as u32,
+        transactions: 1 + random.below(8) as u32,
+        records: None,
+        extras: 50,
+        extremes: true,
+    }
+}
+
+#[test]
+fn sound_files() {
+    for seed in 0..2_000 {
+        let file = file(plan(seed));
+        let verdict = check(&file);
+        let figures = verdict.unwrap_or_else(|refused| panic!("{seed}: {refused:?}"));
+        assert_eq!(figures.records as usize, file.len() / RECORD);
+        let draft = draft(&file);
+        assert_eq!(closed(&draft), file);
+        let (closed, out) = close(&draft, file.len());
+        assert_eq!(closed, verdict);
+        assert!(out == file);
+        for k in 1..u64::from(figures.assignments) {
+            let (parted, [out1, out2]) = part(&file, k, [file.len(), file.len()]);
+            let parted = parted.unwrap();
+            let (joined, out) = join(&out1[..parted.first], &out2[..parted.second], file.len());
+            assert_eq!(joined, verdict);
+            assert!(out == file);
+        }
+    }
+}
+
+#[test]
+fn damaged_files() {
+    let mut random = Random(42);
+    let mut seen = [0u32; 22];
+    for seed in 0..3_000 {
+        let file = file(plan(seed));
+        let draft = draft(&file);
+        for _ in 0..20 {
+            let mut damaged = file.clone();
+            for _ in 0..1 + random.below(2) {
+                damage(&mut random, &mut damaged);
+            }
+            if let Err(refused) = check(&damaged) {
+                seen[refused.number as usize] += 1;
+            }
+            let _ = part(&damaged, random.below(4), [file.len(), file.len()]);
+            let mut damaged = draft.clone();
+            damage(&mut random, &mut damaged);
+            let (verdict, out) = close(&damaged, file.len() + 81);
+            match verdict {
+                Ok(figures) => {
+                    let length = figures.records as usize * RECORD;
+                    assert_eq!(check(&out[..length]), Ok(figures));
+                    assert!(out[length..].iter().all(|&byte| byte == 0xEE));
+                    assert!(out[..length] == closed(&damaged));
+                }
+                Err(refused) => {
+                    assert!(out.iter().all(|&byte| byte == 0xEE));
+                    seen[refused.number as usize] += 1;
+                }
+            }
+        }
+    }
+    for number in [2, 4, 5, 6, 7, 8, 9, 10, 11, 12, 14, 15, 17, 18] {
+        assert!(seen[number] > 0, "refusal {number} never came up: {seen:?}");
+    }
+}
+
+/// Nothing at a limit, so that any two can be joined.
+fn usual(seed: u64) -> Plan {
+    Plan { extremes: false, ..plan(seed) }
+}
+
+#[test]
+fn joined_files() {
+    for seed in 0..2_000 {
+        let (a, b) = (file(usual(seed)), file(usual(seed + 1_000_000)));
+        let (verdict, out) = join(&a, &b, a.len() + b.len());
+        let Ok(figures) = verdict else { panic!("{seed}: {verdict:?}") };
+        let length = figures.records as usize * RECORD;
+        assert_eq!(length, a.len() + b.len() - 2 * RECORD);
+        assert_eq!(check(&out[..length]), verdict);
+        let drafts = [draft(&a), draft(&b)[RECORD..].to_vec()].concat();
+        assert!(out[..length] == closed(&drafts));
+    }
+}
+
+/// Cases as the comparison with the archive has them: the variants answer
+/// alike and write alike, and every refusal comes up.
+#[test]
+fn cases_of_every_operation() {
+    let mut seen = [0u32; 22];
+    for index in 0..40_000 {
+        let case = case(1, index, &Operation::ALL);
+        let [plain, fast] = [Variant::PLAIN, Variant::FAST].map(|variant| {
+            let [mut one, mut two] = case.rooms.map(|room| vec![0xEE; room]);
+            (answer(&case, variant, &mut one, &mut two), one, two)
+        });
+        assert!(plain == fast, "case {index}: {:?} {:?}", plain.0, fast.0);
+        seen[plain.0[1] as usize] += 1;
+    }
+    assert!(seen.iter().all(|&count| count > 0), "{seen:?}");
+}
