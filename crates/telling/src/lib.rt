@@ -20,7 +20,8 @@ pub fn process_day(ddmmyy: u64) -> ProcessDay
     }
 }
 
-fn print_number(n: u64) {
+// A number behind a blank.
+pub fn print_number(n: u64) {
     io::write_all(STDOUT_FILENO, b" ");
     io::print_decimal(STDOUT_FILENO, n);
 }
@@ -60,13 +61,18 @@ pub fn print_refusal(number: u64, record: u64, field: u64) {
     print_number(field);
 }
 
-// The answer of a check, as document 01's program prints it.
-pub fn print_check(verdict: Verdict) {
+// An answer as document 01's program prints it, without the line's end.
+pub fn print_answer(verdict: Verdict) {
     match verdict {
         Verdict::Accepted(t) => print_totals(t),
         Verdict::Refused(x) => {
             print_refusal(x.number as u64, x.record, x.field as u64);
         }
     }
+}
+
+// The answer of a check.
+pub fn print_check(verdict: Verdict) {
+    print_answer(verdict);
     end_line();
 }

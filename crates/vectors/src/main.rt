@@ -1,19 +1,158 @@
 // Outside vectors: numbered files, each a line that says what is asked and then the input; one line of answer for each.
 
+ghost use Prim.Native.Nat.{_+_, _≤_, _<_};
+ghost use lib.ListN.{length};
+use dates::ProcessDay;
 use fields::digits::Digits;
 use libc::STDOUT_FILENO;
+use operations::Parting;
+use rules::Verdict;
+
+// Six digits of the first line, from this position on; 0 where there are none.
+fn six_at(all: &[u8], from: usize) -> u64
+    requires { ⌜ (1 ≤ from) × (from + 5 ≤ length (now all)) ⌝ }
+{
+    let to = from + 5;
+    let Digits::Number(n) = fields::places::number_at(all, from, to) else {
+        return 0;
+    };
+    n
+}
+
+fn with_byte(h: u64, byte: u8) -> u64
+    requires { ⌜ h < 4294967296 ⌝ }
+    ensures { λ x. ⌜ x < 4294967296 ⌝ }
+{
+    (h * 31 + byte as u64) % 4294967296
+}
+
+// A number that every byte of an output goes into.
+fn hash(bytes: &[u8]) -> u64 {
+    let mut h: u64 = 0;
+    let mut i: usize = 0;
+    while i < bytes.len() {
+        h = with_byte(h, bytes[i]);
+        i += 1;
+    }
+    h
+}
+
+fn no_vector() {
+    io::write_all(STDOUT_FILENO, b"no vector");
+}
 
 // `check DDMMYY` and a line feed, then a file.
-fn answer(all: &[u8]) {
-    if all.len() < 13 {
-        io::write_all(STDOUT_FILENO, b"no vector\n");
+fn check(all: &[u8])
+    requires { ⌜ 13 ≤ length (now all) ⌝ }
+{
+    telling::print_answer(checking::check(telling::process_day(six_at(all, 7)), &all[13..]));
+}
+
+// `close DDMMYY ROOM`, then a draft.
+fn close(all: &[u8], out: &mut [u8])
+    requires { ⌜ 34 ≤ length (now all) ⌝ }
+{
+    let room = six_at(all, 14) as usize;
+    if out.len() < room {
+        no_vector();
         return;
     }
-    let Digits::Number(ddmmyy) = fields::places::number_at(all, 7, 12) else {
-        io::write_all(STDOUT_FILENO, b"no vector\n");
+    let day = telling::process_day(six_at(all, 7));
+    telling::print_answer(closing::close(day, &all[34..], &mut out[0..room]));
+    telling::print_number(hash(&out[0..room]));
+}
+
+// The operand of a refusal.
+fn print_operand(verdict: Verdict) {
+    match verdict {
+        Verdict::Accepted(_t) => {}
+        Verdict::Refused(x) => telling::print_number(x.operand as u64),
+    }
+}
+
+// `join  DDMMYY LENGTH ROOM`, then the first file, which has this length, and the second.
+fn join(all: &[u8], out: &mut [u8])
+    requires { ⌜ 34 ≤ length (now all) ⌝ }
+{
+    let length = six_at(all, 14) as usize;
+    let room = six_at(all, 21) as usize;
+    if all.len() - 34 < length {
+        no_vector();
         return;
-    };
-    telling::print_check(checking::check(telling::process_day(ddmmyy), &all[13..]));
+    }
+    let to = 34 + length;
+    if out.len() < room {
+        no_vector();
+        return;
+    }
+    let day = telling::process_day(six_at(all, 7));
+    let verdict = joining::join(day, &all[34..to], &all[to..], &mut out[0..room]);
+    telling::print_answer(verdict);
+    print_operand(verdict);
+    telling::print_number(hash(&out[0..room]));
+}
+
+fn print_parting(parting: Parting) {
+    match parting {
+        Parting::Parted => {
+            io::write_all(STDOUT_FILENO, b"parted");
+        }
+        Parting::NotParted(x) => {
+            telling::print_refusal(x.number as u64, x.record, x.field as u64);
+        }
+    }
+}
+
+// `part  DDMMYY K ROOM ROOM`, then a file.
+fn part(all: &[u8], first: &mut [u8], second: &mut [u8])
+    requires { ⌜ 34 ≤ length (now all) ⌝ }
+{
+    let room1 = six_at(all, 21) as usize;
+    let room2 = six_at(all, 28) as usize;
+    if first.len() < room1 {
+        no_vector();
+        return;
+    }
+    if second.len() < room2 {
+        no_vector();
+        return;
+    }
+    print_parting(parting::part(
+        telling::process_day(six_at(all, 7)),
+        &all[34..],
+        six_at(all, 14),
+        &mut first[0..room1],
+        &mut second[0..room2],
+    ));
+    telling::print_number(hash(&first[0..room1]));
+    telling::print_number(hash(&second[0..room2]));
+}
+
+// By the first two letters of the first line; outputs hold `#` before anything is written.
+fn answer(all: &[u8]) {
+    if all.len() < 34 {
+        return answer_short(all);
+    }
+    let mut first = [35u8; 163840];
+    let mut second = [35u8; 163840];
+    if all[0] == b'j' {
+        return join(all, &mut first);
+    }
+    if all[0] == b'p' {
+        return part(all, &mut first, &mut second);
+    }
+    if all[1] == b'l' {
+        return close(all, &mut first);
+    }
+    check(all)
+}
+
+// An input too short for anything but a check.
+fn answer_short(all: &[u8]) {
+    if all.len() < 13 {
+        return no_vector();
+    }
+    check(all)
 }
 
 // The vector of this number, if there is one.
@@ -34,6 +173,7 @@ fn one(k: u64) -> bool {
     io::write_all(STDOUT_FILENO, &name);
     io::write_all(STDOUT_FILENO, b" ");
     answer(&buffer[..n]);
+    telling::end_line();
     true
 }
 

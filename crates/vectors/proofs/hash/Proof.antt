@@ -1,0 +1,50 @@
+use Prim.Native.Nat.{_-_, _≤_, _<_}
+use native.Mathlib.Omega.{arith}
+use borrow.Author.Needs.{needs}
+use lib.ListN.{length}
+use Rattle.vectors.proofs.hash.Statement.{statement}
+use Rattle.vectors.proofs.hash.Tie as tie
+use Rattle.vectors.proofs.hash.Reads as reads
+use Rattle.vectors.proofs.hash.Lts as lts
+use Rattle.vectors.proofs.with_byte.Reads as with-byte-reads
+
+abbrev Inv-loop : tie.InvT-loop
+Inv-loop bytes h₀ i₀ h i = (h < 4294967296) × (i ≤ length bytes)
+
+abbrev μ-loop : tie.MeasureT-loop
+μ-loop bytes h₀ i₀ h i = length bytes - i
+
+loop-holds : tie.Need-loop-holds Inv-loop μ-loop
+loop-holds c = search needs
+
+shared-slice-read-with-byte : tie.Need-shared-slice-read-with-byte Inv-loop μ-loop
+shared-slice-read-with-byte c = search needs
+
+with-byte-requires : tie.Need-with-byte-requires Inv-loop μ-loop
+with-byte-requires c κs = search needs
+
+add-i : tie.Need-add-i Inv-loop μ-loop
+add-i c = search needs
+
+loop-less : tie.Need-loop-less Inv-loop μ-loop
+loop-less c = search needs
+
+loop-again : tie.Need-loop-again Inv-loop μ-loop
+loop-again c = search needs
+
+returns : tie.Need-returns Inv-loop μ-loop
+returns c = search needs
+
+pub hash-spec : {M : Type 1} → statement M
+hash-spec =
+    tie.close
+    (tie.spec
+    Inv-loop
+    μ-loop
+    loop-holds
+    shared-slice-read-with-byte
+    with-byte-requires
+    add-i
+    loop-less
+    loop-again
+    returns)
