@@ -9,6 +9,8 @@ use lib.ListN.{length, take}
 use Rattle.choice.specs.Choice.{if_then_else_}
 use Rattle.dates.specs.Windows.{windowOf}
 use Rattle.dates.specs.declared.ProcessDay.{ProcessDay}
+use Rattle.dates.specs.declared.Window.{Window}
+use Rattle.dates.specs.declared.Opening.the-variants.{Open}
 use Rattle.fields.specs.Bytes.{every, isDigit, same, part}
 use Rattle.figures.specs.Figures.{within, limitWide}
 use Rattle.figures.specs.declared.totals.Totals.{Totals}
@@ -62,6 +64,15 @@ allowed a b s t =
     else limited s t)
     else refused 20 2 1 5
 
+-- the window of a process day
+pub record OnDay (w : Window) : Type 0 where
+  pub day : ProcessDay
+  pub opened : windowOf day ≡ Open w
+
+-- the second file behind an accepted first one
+unfoldable pub secondOf : Window → List ℕ → Totals → List ℕ → Verdict
+secondOf w a s b = ofOperand 2 (judge w b) (λ t. allowed a b s t)
+
 -- all that is judged before the output is looked at
 unfoldable pub weighed : ProcessDay → List ℕ → List ℕ → Verdict
-weighed day a b = onWindow (windowOf day) (λ w. ofOperand 1 (judge w a) (λ s. ofOperand 2 (judge w b) (λ t. allowed a b s t)))
+weighed day a b = onWindow (windowOf day) (λ w. ofOperand 1 (judge w a) (λ s. secondOf w a s b))
