@@ -65,6 +65,49 @@ fn close(draft: &[u8], out: &mut [u8]) {
     }
 }
 
+// The machine's line of a refused joining, which also says which file, and what it means.
+fn tell_not_joined(x: Refusal, file: &[u8]) {
+    telling::print_refusal(x.number as u64, x.record, x.field as u64);
+    words::say(b" ");
+    words::say_number(x.operand as u64);
+    telling::end_line();
+    refusals::explain(x, file);
+}
+
+fn join(first: &[u8], second: &[u8], out: &mut [u8]) {
+    match joining::join(asked::day(), first, second, out) {
+        Verdict::Refused(x) => {
+            if x.operand == 1 {
+                tell_not_joined(x, first);
+                return;
+            }
+            tell_not_joined(x, second);
+        }
+        Verdict::Accepted(t) => {
+            let records = t.records;
+            let size = size_of(records.0 as usize, out);
+            keep(5, &out[..size], t);
+        }
+    }
+}
+
+fn read_second(first: &[u8], name: &[u8], second: &mut [u8], out: &mut [u8]) {
+    let fd = files::open_input(name);
+    if fd < 0 {
+        return;
+    }
+    let n = io::read_full(fd, second);
+    if files::ended(fd, name) {
+        join(first, &second[..n], out);
+    }
+}
+
+fn with_second(first: &[u8], second: &mut [u8], out: &mut [u8]) {
+    let mut name = io::buffer();
+    let n = os::arg(4, &mut name);
+    read_second(first, &name[..n], second, out);
+}
+
 // 1 for a record 88, which ends an assignment.
 fn ending(r: &[u8]) -> u64 {
     if r.len() != 81 {
@@ -125,7 +168,7 @@ fn serve(file: &[u8], second: &mut [u8], third: &mut [u8]) {
     match asked::order_given() {
         Command::Check => check(file),
         Command::Close => close(file, second),
-        Command::Join => words::usage(Command::Join),
+        Command::Join => with_second(file, second, third),
         Command::Part => part(file, second, third),
         Command::Help => words::help(),
         Command::Unknown => words::usage(Command::Unknown),

@@ -23,13 +23,12 @@ fn say_letter(b: u8) {
     say(&[195, b - 64]);
 }
 
-fn say_record(r: &[u8]) {
+fn say_letters(r: &[u8]) {
     let mut i: usize = 0;
     while i < r.len() {
         say_letter(r[i]);
         i += 1;
     }
-    telling::end_line();
 }
 
 // A mark below a position of the underlined place, a blank before it.
@@ -91,6 +90,18 @@ fn say_where(x: Refusal) {
     say_number(x.record);
 }
 
+// The 80 letters of a record, and the one behind them where that has to be a line feed and is not.
+fn say_record(r: &[u8], number: u8) {
+    if r.len() != 81 {
+        return;
+    }
+    say_letters(&r[0..80]);
+    if number == 4 {
+        say_letter(r[80]);
+    }
+    telling::end_line();
+}
+
 // The record that was refused, with its field by name, position and underlined.
 fn show(x: Refusal, r: &[u8]) {
     if r.len() != 81 {
@@ -107,8 +118,10 @@ fn show(x: Refusal, r: &[u8]) {
         say(b")");
     }
     telling::end_line();
-    say_record(r);
-    underline(place);
+    say_record(r, x.number);
+    if 0 < place.to {
+        underline(place);
+    }
 }
 
 // The record that a refusal names, where the file has it.

@@ -1,12 +1,11 @@
 use Prim.Native.Nat.{_-_, _≤_}
 use borrow.Author.Needs.{needs}
 use lib.ListN.{length}
-use Rattle.pay.proofs.refusals.say_record.Statement.{statement}
-use Rattle.pay.proofs.refusals.say_record.Tie as tie
-use Rattle.pay.proofs.refusals.say_record.Reads as reads
-use Rattle.pay.proofs.refusals.say_record.Lts as lts
+use Rattle.pay.proofs.refusals.say_letters.Statement.{statement}
+use Rattle.pay.proofs.refusals.say_letters.Tie as tie
+use Rattle.pay.proofs.refusals.say_letters.Reads as reads
+use Rattle.pay.proofs.refusals.say_letters.Lts as lts
 use Rattle.pay.proofs.refusals.say_letter.Reads as say-letter-reads
-use Rattle.telling.proofs.end_line.Reads as end-line-reads
 
 abbrev Inv-loop : tie.InvT-loop
 Inv-loop r i₀ i = i ≤ length r
@@ -32,14 +31,12 @@ loop-less c = search needs
 loop-again : tie.Need-loop-again Inv-loop μ-loop
 loop-again c = search needs
 
-end-line-requires : tie.Need-end-line-requires Inv-loop μ-loop
-end-line-requires c κs = search needs
 
 returns : tie.Need-returns Inv-loop μ-loop
 returns c = search needs
 
-pub say-record-spec : {M : Type 1} → statement M
-say-record-spec =
+pub say-letters-spec : {M : Type 1} → statement M
+say-letters-spec =
     tie.close
     (tie.spec
     Inv-loop
@@ -50,5 +47,4 @@ say-record-spec =
     add-i
     loop-less
     loop-again
-    end-line-requires
     returns)
