@@ -16,7 +16,11 @@ use Rattle.dates.specs.declared.Opening.the-variants.{Open, NoDay}
 use Rattle.rules.specs.Growth.{start}
 use Rattle.rules.specs.Run.{refused, run, recordsOf, mostRecords, badLength, judge, onWindow, checkOf}
 use Rattle.rules.specs.declared.Mode.the-variants.{File}
+use Rattle.figures.specs.declared.totals.Totals.{Totals}
+use Rattle.rules.specs.declared.Refusal.{Refusal}
 use Rattle.rules.specs.declared.Verdict.{Verdict}
+use Rattle.rules.specs.declared.Verdict.the-variants.{Accepted, Refused}
+use native.Mathlib.Omega.{arith}
 
 module _ (day : ProcessDay) (b : List ℕ) (o : Opening) (opened : o ≡ windowOf day) where
   pub no-day : o ≡ NoDay → refused 1 0 0 0 ≡ checkOf day b
@@ -40,3 +44,10 @@ module _ (w : Window) (b : List ℕ) (bad : Bool) (e : bad ≡ badLength b) wher
     pub in-turn : length b / 81 ≤ mostRecords → run File w 0 start [] (recordsOf b) ≡ judge w b
     unfolding judge
     in-turn h = rw (sym e ∙ even, le-leb (length b / 81) mostRecords h)
+
+-- a refusal has no figures
+pub no-figures : (v : Verdict) (n : ℕ) (t : Totals) → v ≡ refused n 0 0 0 → v ≡ Accepted t → ⊥
+no-figures v n t e q = refused-apart _ t (sym e ∙ q)
+  where
+    refused-apart : (x : Refusal) (t : Totals) → Refused x ≡ Accepted t → ⊥
+    refused-apart x t z = let y : _≡_ {A = ℕ} 0 1 = cc in omega arith

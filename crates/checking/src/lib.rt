@@ -1,7 +1,11 @@
 // Checking a file, of any bytes, on any process day.
 
 ghost use mathlib.Core.Path.{_≡_};
-ghost use Rattle.rules.specs.Run.{refused, badLength, judge, checkOf};
+ghost use lib.ListN.{length, take};
+ghost use Rattle.figures.specs.declared.totals.Totals.{Totals};
+ghost use Rattle.rules.specs.Growth.{allKeys};
+ghost use Rattle.rules.specs.Run.{refused, recordsOf, badLength, judge, checkOf};
+ghost use Rattle.rules.specs.declared.Verdict.the-variants.{Accepted};
 use dates::Opening;
 use dates::ProcessDay;
 use dates::Window;
@@ -29,9 +33,10 @@ pub fn bad_length(bytes: &[u8]) -> bool
     (len == 0) | (len % 81 != 0)
 }
 
-// On a process day that is one: the length, the number of records, then the records in turn.
-pub fn judge(w: Window, file: &[u8]) -> Verdict
-    ensures { λ x. ⌜ x ≡ judge w (now (file .entry)) ⌝ }
+// On a process day that is one: the length, the number of records, then the records in turn. An accepted file leaves its keys.
+pub fn judge(w: Window, file: &[u8], kept: &mut [u64]) -> Verdict
+    requires { ⌜ length (now kept) ≡ 500 ⌝ }
+    ensures { λ x. ⌜ (x ≡ judge w (now (file .entry))) × ((t : Totals) → x ≡ Accepted t → take (t .assignments .0) (now (kept .exit)) ≡ allKeys (recordsOf (now (file .entry)))) ⌝ }
 {
     if bad_length(file) {
         return refuse(2);
@@ -39,7 +44,7 @@ pub fn judge(w: Window, file: &[u8]) -> Verdict
     if 200000 < file.len() / 81 {
         return refuse(3);
     }
-    running::run_over(Mode::File, w, file)
+    running::run_over(Mode::File, w, file, kept)
 }
 
 // Accepted with the figures of its records, or refused for its first fault.
@@ -49,5 +54,6 @@ pub fn check(day: ProcessDay, file: &[u8]) -> Verdict
     let Opening::Open(w) = day.window() else {
         return refuse(1);
     };
-    judge(w, file)
+    let mut kept = [0u64; 500];
+    judge(w, file, &mut kept)
 }

@@ -75,7 +75,8 @@ fn weigh(w: Window, draft: &[u8]) -> Verdict
     if 200000 < draft.len() / 81 + openings_in(draft) + 1 {
         return checking::refuse(3);
     }
-    match running::run_over(Mode::Draft, w, draft) {
+    let mut kept = [0u64; 500];
+    match running::run_over(Mode::Draft, w, draft, &mut kept) {
         Verdict::Refused(refusal) => Verdict::Refused(refusal),
         Verdict::Accepted(t) => Verdict::Accepted(closed_figures(t)),
     }

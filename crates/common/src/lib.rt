@@ -44,36 +44,35 @@ pub fn outside(r: &[u8]) -> Finding
         .demand(fields::places::same_at(r, 5, 6, b"00"), 7, 3)
 }
 
-// Fields 1 and 2 within an assignment.
-pub fn belonging(r: &[u8], a: Assignment) -> Finding
+// Fields 1 and 2 within an assignment of the service.
+pub fn belonging(r: &[u8], service: Service) -> Finding
     requires { ⌜ length (now r) ≡ 81 ⌝ }
-    ensures { λ x. ⌜ ((f : Totals) (ks : List ℕ) → x ≡ firstFault f ks (now (r .entry)) (belongs a (now (r .entry)))) ⌝ }
+    ensures { λ x. ⌜ ((a : Assignment) → a .service ≡ service → (f : Totals) (ks : List ℕ) → x ≡ firstFault f ks (now (r .entry)) (belongs a (now (r .entry)))) ⌝ }
 {
-    let service = a.service;
     Finding::Sound
         .demand(fields::places::same_at(r, 1, 2, b"NY"), 7, 1)
         .demand(fields::places::code_at(r, 3) == code_for(service), 12, 2)
 }
 
 // Field 5, the number of the transaction at hand.
-pub fn same_number(r: &[u8], a: Assignment) -> Finding
+pub fn same_number(r: &[u8], number: TransactionNumber) -> Finding
     requires { ⌜ length (now r) ≡ 81 ⌝ }
-    ensures { λ x. ⌜ ((f : Totals) (ks : List ℕ) → x ≡ firstFault f ks (now (r .entry)) (sameNumber a (now (r .entry)))) ⌝ }
+    ensures { λ x. ⌜ ((a : Assignment) → a .number ≡ number → (f : Totals) (ks : List ℕ) → x ≡ firstFault f ks (now (r .entry)) (sameNumber a (now (r .entry)))) ⌝ }
 {
     let Digits::Number(n) = fields::places::number_at(r, 9, 15) else {
         return Finding::Fault(8, 5);
     };
-    let number = a.number;
     Finding::Sound.demand(numbered(n).equals(number), 12, 5)
 }
 
-// Fields 1 to 5 of 31, 40 and 49.
-pub fn repeating(r: &[u8], a: Assignment) -> Finding
+// Fields 1 to 5 of 31, 40 and 49, which repeat their record 30.
+pub fn repeating(r: &[u8], service: Service, code: u8, number: TransactionNumber) -> Finding
     requires { ⌜ length (now r) ≡ 81 ⌝ }
-    ensures { λ x. ⌜ ((f : Totals) (ks : List ℕ) → x ≡ firstFault f ks (now (r .entry)) (repeats a (now (r .entry)))) ⌝ }
+    ensures { λ x. ⌜ ((a : Assignment) → a .service ≡ service → a .code ≡ code → a .number ≡ number → (f : Totals) (ks : List ℕ) → x ≡ firstFault f ks (now (r .entry)) (repeats a (now (r .entry)))) ⌝ }
 {
-    let code = a.code;
-    belonging(r, a)
-        .demand(fields::places::code_at(r, 5) == code, 12, 3)
-        .or_else(same_number(r, a))
+    let head = belonging(r, service).demand(fields::places::code_at(r, 5) == code, 12, 3);
+    match head {
+        Finding::Fault(_number, _field) => head,
+        Finding::Sound => same_number(r, number),
+    }
 }

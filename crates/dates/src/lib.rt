@@ -1,6 +1,8 @@
 // Dates of the years 2000 to 2099, and the window that a process day opens.
 
 ghost use mathlib.Core.Path.{_≡_};
+ghost use mathlib.Core.Bool.{_||_};
+ghost use lib.Dec.{eqb};
 ghost use Rattle.dates.specs.Dates.{daysIn, isDate, dayOf, readDay, ddmmyy, earlier, later};
 ghost use Rattle.dates.specs.Windows.{windowOf, earliest, inTime};
 
@@ -37,6 +39,14 @@ pub enum Opening {
     NoDay,
 }
 
+// A month of 30 days.
+fn is_short(month: u64) -> bool
+    ensures { λ r. ⌜ r ≡ (eqb month 4 || eqb month 6 || eqb month 9 || eqb month 11) ⌝ }
+{
+    (month == 4) | (month == 6) | (month == 9) | (month == 11)
+}
+
+// February has a test of its own; the others are told by arithmetic, since a branch on the month is guessed wrong.
 fn days_in(year: u64, month: u64) -> u64
     ensures { λ r. ⌜ r ≡ daysIn year month ⌝ }
 {
@@ -46,10 +56,7 @@ fn days_in(year: u64, month: u64) -> u64
         }
         return 28;
     }
-    if (month == 4) | (month == 6) | (month == 9) | (month == 11) {
-        return 30;
-    }
-    31
+    31 - is_short(month) as u64
 }
 
 fn is_date(year: u64, month: u64, day: u64) -> bool

@@ -1,4 +1,4 @@
--- Document 01, "Layouts": the pieces of the tables of 49 and 50 that have a function each, and a number within bounds.
+-- Document 01, "Layouts": the pieces of the tables of 31, 49 and 50 that have a function each, and a number within bounds.
 -- Assumes nothing.
 use Prim.Native.Nat.{ℕ}
 use mathlib.Core.List.{List, [], _∷_, _++_}
@@ -8,7 +8,7 @@ use Rattle.choice.specs.Choice.{if_then_else_}
 use Rattle.fields.specs.Bytes.{every, isDigit}
 use Rattle.fields.specs.Numbers.{value}
 use Rattle.figures.specs.Figures.{amount, within, limitWide}
-use Rattle.layout.specs.Rules.{digits, listed}
+use Rattle.layout.specs.Rules.{digits, zeros, textual, listed}
 use Rattle.layout.specs.Rows.{Row, at, must}
 use Rattle.rules.specs.Codes.{typeCode}
 use Rattle.rules.specs.Layouts.{belongs, sameNumber, amount50}
@@ -23,6 +23,15 @@ isUpTo most s = every isDigit s && (leb 1 (value s) && leb (value s) most)
 -- that number, or 0
 unfoldable pub upTo : ℕ → List ℕ → ℕ
 upTo most s = if isUpTo most s then value s else 0
+
+-- fields 6 to 9 of 31
+abbrev pub texts31 : List Row
+texts31 =
+    at 6 16 25 textual ∷
+    at 7 26 50 textual ∷
+    at 8 51 75 textual ∷
+    at 9 76 80 zeros ∷
+    []
 
 -- fields 7 and 8 of 49, and the place that they give
 abbrev pub place49 : Assignment → List ℕ → List Row

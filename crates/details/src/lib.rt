@@ -11,7 +11,7 @@ ghost use Rattle.layout.specs.Rows.{firstFault};
 ghost use Rattle.rules.specs.Layouts.{record31, record40};
 ghost use Rattle.rules.specs.Messages.{taken, withPlace};
 ghost use Rattle.rules.specs.Payments.{nameForm, postalForm, fillerForm};
-ghost use Rattle.details.specs.Pieces.{upTo, head50};
+ghost use Rattle.details.specs.Pieces.{upTo, texts31, head50};
 ghost use Rattle.details.specs.Found.{PlaceBy, PlacedBy, AmountBy, SpecifiedBy};
 use fields::classes::Class;
 use fields::digits::Digits;
@@ -33,15 +33,36 @@ pub struct Specified {
     pub amount: Amount,
 }
 
+// Fields 6 to 9 of a record 31. Where all of them hold, no fault is looked for.
+fn texts(r: &[u8]) -> Finding
+    requires { ⌜ length (now r) ≡ 81 ⌝ }
+    ensures { λ x. ⌜ ((f : Totals) (ks : List ℕ) → x ≡ firstFault f ks (now (r .entry)) texts31) ⌝ }
+{
+    let first = fields::places::all_at(Class::Text, r, 16, 25);
+    let second = fields::places::all_at(Class::Text, r, 26, 50);
+    let third = fields::places::all_at(Class::Text, r, 51, 75);
+    let zero = fields::places::all_at(Class::Zero, r, 76, 80);
+    if first & second & third & zero {
+        return Finding::Sound;
+    }
+    Finding::Sound
+        .demand(first, 8, 6)
+        .demand(second, 8, 7)
+        .demand(third, 8, 8)
+        .demand(zero, 7, 9)
+}
+
 pub fn check31(r: &[u8], a: Assignment) -> Finding
     requires { ⌜ length (now r) ≡ 81 ⌝ }
     ensures { λ x. ⌜ ((f : Totals) (ks : List ℕ) → x ≡ firstFault f ks (now (r .entry)) (record31 a (now (r .entry)))) ⌝ }
 {
-    common::repeating(r, a)
-        .demand(fields::places::all_at(Class::Text, r, 16, 25), 8, 6)
-        .demand(fields::places::all_at(Class::Text, r, 26, 50), 8, 7)
-        .demand(fields::places::all_at(Class::Text, r, 51, 75), 8, 8)
-        .demand(fields::places::all_at(Class::Zero, r, 76, 80), 7, 9)
+    let service = a.service;
+    let number = a.number;
+    let head = common::repeating(r, service, a.code, number);
+    match head {
+        Finding::Fault(_number, _field) => head,
+        Finding::Sound => texts(r),
+    }
 }
 
 // Text; for type 04 not blank.
@@ -82,8 +103,10 @@ pub fn check40(r: &[u8], a: Assignment) -> Finding
     requires { ⌜ length (now r) ≡ 81 ⌝ }
     ensures { λ x. ⌜ ((f : Totals) (ks : List ℕ) → x ≡ firstFault f ks (now (r .entry)) (record40 a (now (r .entry)))) ⌝ }
 {
+    let service = a.service;
+    let number = a.number;
     let code = fields::places::code_at(r, 5);
-    common::repeating(r, a)
+    common::repeating(r, service, a.code, number)
         .demand(name_at(code, r, 16, 45), 8, 6)
         .demand(postal_at(code, r, 46, 49), 8, 7)
         .demand(filler_at(code, r, 50, 52), 8, 8)
@@ -143,14 +166,16 @@ pub fn check49(r: &[u8], a: Assignment) -> Placed
     requires { ⌜ length (now r) ≡ 81 ⌝ }
     ensures { λ x. ⌜ PlacedBy a (now (r .entry)) x ⌝ }
 {
+    let service = a.service;
+    let number = a.number;
     let placed = placing(r, a);
     let found = placed.finding;
     Placed {
-        finding: common::repeating(r, a)
+        finding: common::repeating(r, service, a.code, number)
             .demand(fields::places::same_at(r, 16, 16, b"3"), 7, 6)
             .or_else(found)
             .demand(fields::places::all_at(Class::Text, r, 21, 60), 8, 9)
-            .demand(fields::places::all_at(Class::Zero, r, 61, 80), 7, 10),
+            .demand(fields::places::zeros_from(r, 61), 7, 10),
         places: placed.places,
     }
 }
@@ -160,13 +185,15 @@ fn heading(r: &[u8], a: Assignment) -> Finding
     requires { ⌜ length (now r) ≡ 81 ⌝ }
     ensures { λ x. ⌜ ((f : Totals) (ks : List ℕ) → x ≡ firstFault f ks (now (r .entry)) (head50 a (now (r .entry)))) ⌝ }
 {
-    common::belonging(r, a)
+    let service = a.service;
+    let number = a.number;
+    common::belonging(r, service)
         .demand(
             fields::places::same_at(r, 5, 6, b"16") | fields::places::same_at(r, 5, 6, b"17"),
             7,
             3,
         )
-        .or_else(common::same_number(r, a))
+        .or_else(common::same_number(r, number))
 }
 
 // The sum that a record 50 of this type adds to.
@@ -208,9 +235,9 @@ pub fn check50(r: &[u8], a: Assignment) -> Specified
     let amount = specified.amount;
     Specified {
         finding: heading(r, a)
-            .demand(fields::places::kid_at(r, 16, 40), 8, 6)
+            .demand(fields::places::kid_at(r, 16), 8, 6)
             .or_else(found)
-            .demand(fields::places::all_at(Class::Zero, r, 58, 80), 7, 8),
+            .demand(fields::places::zeros_from(r, 58), 7, 8),
         amount,
     }
 }

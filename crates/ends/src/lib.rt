@@ -8,7 +8,6 @@ ghost use Rattle.fields.specs.Bytes.{Inside};
 ghost use Rattle.layout.specs.Rows.{firstFault};
 ghost use Rattle.rules.specs.Layouts.{own, record88, record89};
 ghost use Rattle.ends.specs.Stages.{head88, figuresIn};
-use fields::classes::Class;
 use fields::digits::Digits;
 use figures::counts::Count;
 use figures::totals::Totals;
@@ -51,9 +50,10 @@ fn belonging88(r: &[u8], a: Assignment) -> Finding
     ensures { λ x. ⌜ ((f : Totals) (ks : List ℕ) → x ≡ firstFault f ks (now (r .entry)) (head88 a (now (r .entry)))) ⌝ }
 {
     let group = a.group;
+    let service = a.service;
     Finding::Sound
         .demand(group.gives(a.due), 14, 0)
-        .or_else(common::belonging(r, a))
+        .or_else(common::belonging(r, service))
         .demand(fields::places::same_at(r, 5, 6, b"00"), 7, 3)
 }
 
@@ -65,7 +65,7 @@ pub fn check88(r: &[u8], a: Assignment) -> Finding
     belonging88(r, a)
         .or_else(figures_in(r, totals.totals))
         .or_else(figure_at(r, 48, 53, 9, dates::ddmmyy_of(totals.last)))
-        .demand(fields::places::all_at(Class::Zero, r, 54, 80), 7, 10)
+        .demand(fields::places::zeros_from(r, 54), 7, 10)
 }
 
 pub fn check89(r: &[u8], file: Totals) -> Finding
@@ -74,5 +74,5 @@ pub fn check89(r: &[u8], file: Totals) -> Finding
 {
     common::outside(r)
         .or_else(figures_in(r, file))
-        .demand(fields::places::all_at(Class::Zero, r, 48, 80), 7, 9)
+        .demand(fields::places::zeros_from(r, 48), 7, 9)
 }

@@ -1,4 +1,5 @@
 pub mod Tests
+pub mod Computed
 pub mod Every
 pub mod Values
 pub mod Width

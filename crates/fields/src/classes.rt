@@ -19,7 +19,8 @@ pub fn in_class(class: Class, b: u8) -> bool
         Class::Digit => (48 <= b) & (b <= 57),
         Class::Zero => b == 48,
         Class::Blank => b == 32,
-        Class::Text => ((32 <= b) & (b <= 126)) | (160 <= b),
+        // 32 to 126 and 160 to 255 have a bit of 0x60; so has 127, which is none
+        Class::Text => (b & 0x60 != 0) & (b != 127),
         Class::DigitOrBlank => ((48 <= b) & (b <= 57)) | (b == 32),
     }
 }

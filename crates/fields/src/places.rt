@@ -3,7 +3,7 @@
 ghost use mathlib.Core.Path.{_≡_};
 ghost use Prim.Native.Nat.{_+_, _≤_};
 ghost use lib.ListN.{length};
-ghost use Rattle.fields.specs.Bytes.{every, same, part, Inside};
+ghost use Rattle.fields.specs.Bytes.{every, isZero, same, part, Inside};
 ghost use Rattle.fields.specs.Classes.{inClass};
 ghost use Rattle.fields.specs.Numbers.{numberOf, codeOf};
 ghost use Rattle.fields.specs.Accounts.{accountOf};
@@ -40,6 +40,14 @@ pub fn all_at(class: Class, r: &[u8], from: usize, to: usize) -> bool
     super::classes::all_in(class, &r[from - 1..to])
 }
 
+// Zeros up to the end of a record: its last byte is the line feed.
+pub fn zeros_from(r: &[u8], from: usize) -> bool
+    requires { ⌜ (length (now r) ≡ 81) × (1 ≤ from) × (from ≤ 80) ⌝ }
+    ensures { λ b. ⌜ b ≡ every isZero (part from 80 (now (r .entry))) ⌝ }
+{
+    super::classes::all_in(Class::Zero, &r[from - 1..r.len() - 1])
+}
+
 pub fn same_at(r: &[u8], from: usize, to: usize, t: &[u8]) -> bool
     requires { ⌜ Inside from to (now r) × (to + 1 ≡ from + length (now t)) ⌝ }
     ensures { λ b. ⌜ b ≡ same (part from to (now (r .entry))) (now (t .entry)) ⌝ }
@@ -54,11 +62,12 @@ pub fn account_at(r: &[u8], from: usize, to: usize) -> Account
     super::accounts::account_of(&r[from - 1..to])
 }
 
-pub fn kid_at(r: &[u8], from: usize, to: usize) -> bool
-    requires { ⌜ Inside from to (now r) ⌝ }
-    ensures { λ b. ⌜ b ≡ isKid (part from to (now (r .entry))) ⌝ }
+// A KID field has 25 places.
+pub fn kid_at(r: &[u8], from: usize) -> bool
+    requires { ⌜ Inside from (from + 24) (now r) ⌝ }
+    ensures { λ b. ⌜ b ≡ isKid (part from (from + 24) (now (r .entry))) ⌝ }
 {
-    super::kids::kid(&r[from - 1..to])
+    super::kids::kid(&r[from - 1..from + 24])
 }
 
 pub fn kid_right_at(r: &[u8], from: usize, to: usize) -> bool

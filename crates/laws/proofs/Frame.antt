@@ -15,12 +15,12 @@ use Rattle.layout.specs.Rows.{Row, at, must, file, holds, member, mostAssignmen
 use Rattle.rules.specs.Codes.{kindOf, keyIn}
 use Rattle.rules.specs.Payments.{amountIn}
 use Rattle.rules.specs.Layouts.{tableFor, rows}
-use Rattle.rules.specs.Growth.{gainFor, gain, turn, keysFor, keys}
+use Rattle.rules.specs.Growth.{gainFor, gain, turn, keysFor, keys, allKeys}
 use Rattle.rules.specs.declared.Assignment.{Assignment}
 use Rattle.rules.specs.declared.Kind.{Kind}
 use Rattle.rules.specs.declared.Kind.the-variants.{R10, R20, R30, R31, R40, R49, R50, R88, R89, Other}
 use Rattle.rules.specs.declared.Mode.{Mode}
-use Rattle.laws.specs.Meets.{gains, allKeys, Meets}
+use Rattle.laws.specs.Meets.{gains, Meets}
 use Rattle.laws.specs.Fits.{Fresh, Fits, NoEnd}
 
 -- the rows of a table that ask something of the file

@@ -22,3 +22,4 @@ pub mod Joining
 pub mod Cuts
 pub mod Parting
 pub mod OneAnswer
+pub mod Slices

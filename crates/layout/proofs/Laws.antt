@@ -109,6 +109,13 @@ module _ (f : Totals) (ks : List ℕ) (r : List ℕ) where
   pub then-rows : (ws vs : List Row) {x : Finding} → firstFault f ks r ws ≡ x → firstFault f ks r (ws ++ vs) ≡ inTurn x vs
   then-rows ws vs e = rows-behind ws vs ∙ ap (λ (y : Finding). inTurn y vs) e
 
+  -- a first piece with a fault ends the whole; where it is sound, the whole is what stands behind it
+  pub ends-here : (ws vs : List Row) {x : Finding} {n k : ℕ} → x ≡ firstFault f ks r ws → x ≡ Fault n k → x ≡ firstFault f ks r (ws ++ vs)
+  ends-here ws vs e h = h ∙ sym (then-piece ws vs (sym e ∙ h))
+
+  pub goes-on : (ws vs : List Row) {x y : Finding} → x ≡ firstFault f ks r ws → x ≡ Sound → y ≡ firstFault f ks r vs → y ≡ firstFault f ks r (ws ++ vs)
+  goes-on ws vs e h g = g ∙ sym (then-piece ws vs (sym e ∙ h))
+
   -- a piece, and behind it a row that does not hold
   pub cut : (ws : List Row) (w : Row) (vs : List Row) → passes f ks r w ≡ false
       → firstFault f ks r (ws ++ (w ∷ vs)) ≡ orElse (firstFault f ks r ws) (Fault (rowNumber w) (rowField w))

@@ -36,7 +36,8 @@ fn kind_for(code: u8) -> Kind
     }
 }
 
-fn number_of(kind: Kind) -> u8
+// The number that a record of this type bears in field 4.
+pub fn number_of(kind: Kind) -> u8
     ensures { λ x. ⌜ x ≡ numberOfKind kind ⌝ }
 {
     match kind {
@@ -91,15 +92,14 @@ pub fn may_follow(mode: Mode, a: Assignment, kind: Kind) -> bool
     let last = number_of(before);
     let remittance = is_remittance(service);
     let draft = is_draft(mode);
-    let whole = whole_behind(last, remittance, code);
     match kind {
-        Kind::R30 => (last == 20) | whole,
+        Kind::R30 => (last == 20) | whole_behind(last, remittance, code),
         Kind::R31 => last == 30,
         Kind::R40 => (last == 31) & remittance & ((code == 3) | (code == 4)),
         Kind::R49 => (last == 49) | ((last == 31) & !remittance & (code == 3)),
         Kind::R50 => (last == 50) | ((last == 31) & remittance & (code == 16)),
-        Kind::R88 => !draft & whole,
-        Kind::R20 => (last == 10) | (last == 88) | (draft & whole),
+        Kind::R88 => !draft & whole_behind(last, remittance, code),
+        Kind::R20 => (last == 10) | (last == 88) | (draft & whole_behind(last, remittance, code)),
         Kind::R89 => last == 88,
         Kind::R10 => last == 0,
         Kind::Other => false,
@@ -115,6 +115,10 @@ pub fn may_end(mode: Mode, a: Assignment) -> bool
             let before = a.last;
             number_of(before) == 89
         }
-        Mode::Draft => may_follow(Mode::File, a, Kind::R88),
+        Mode::Draft => {
+            let before = a.last;
+            let service = a.service;
+            whole_behind(number_of(before), is_remittance(service), a.code)
+        }
     }
 }

@@ -8,7 +8,6 @@ use native.Mathlib.Omega.{arith}
 use borrow.Author.Tests.{le-leb, lt-leb, lt-ltb, le-ltb}
 use lib.Dec.{leb, ltb}
 use lib.ListN.{length, take, drop, length-take, length-drop}
-use lib.Seq.{take-nil}
 use Rattle.choice.specs.Choice.{if_then_else_}
 use Rattle.dates.specs.declared.ProcessDay.{ProcessDay}
 use Rattle.dates.specs.declared.Window.{Window}
@@ -18,7 +17,8 @@ use Rattle.laws.specs.Meets.{Meets}
 use Rattle.laws.specs.View.{headed, Good}
 use Rattle.laws.proofs.Bytes.{bytes-length}
 use Rattle.laws.proofs.Frame.{fitted}
-use Rattle.laws.proofs.Made.{fileOf, file-length, file-body, body-records}
+use Rattle.laws.proofs.Made.{file-body, body-records}
+use Rattle.laws.proofs.Slices.{bodyIn, body-is, long-enough}
 use Rattle.laws.proofs.View.{viewed}
 use Rattle.layout.specs.Rows.{AllHold}
 use Rattle.operations.specs.Joining.{assignmentsOf}
@@ -53,25 +53,8 @@ unfolding Meets AllReadable
 all-readable m w f ks a [] h = tt
 all-readable m w f ks a (r ∷ rs) h = (readable m w f ks a r (h .0), all-readable m w _ (_) (turn r a) rs (h .1))
 
--- ---- the assignments of a file as the code takes them out
-drop-take : (n m : ℕ) (l : List ℕ) → drop n (take m l) ≡ take (m - n) (drop n l)
-drop-take zero m l = let e : m ≡ m - 0 = omega arith in ap (λ (x : ℕ). take x l) e
-drop-take (suc n) zero l = let e : zero - suc n ≡ 0 = omega arith in sym (ap (λ (x : ℕ). take x (drop (suc n) l)) e)
-drop-take (suc n) (suc m) [] = sym (take-nil (suc m - suc n))
-drop-take (suc n) (suc m) (x ∷ l) = let e : m - n ≡ suc m - suc n = omega arith in drop-take n m l ∙ ap (λ (y : ℕ). take y (drop n l)) e
-
-abbrev pub bodyIn : List ℕ → List ℕ
-bodyIn b = take (length b - 81 - 81) (drop 81 b)
-
-body-is : (b : List ℕ) → bodyIn b ≡ assignmentsOf b
-body-is b = sym (drop-take 81 (length b - 81) b)
-
+-- ---- the assignments of an accepted file
 module _ (day : ProcessDay) (b : List ℕ) (t : Totals) (e : checkOf day b ≡ Accepted t) where
-  pub long-enough : 162 ≤ length b
-  long-enough =
-      let v = viewed day b t e in
-      omega (arith, ap length (v .bytes), file-length (v .window) (v .head) (v .body) (v .good))
-
   pub divisible : Divisible (take 81 b) (bodyIn b)
   divisible =
       let v = viewed day b t e in
@@ -81,7 +64,7 @@ module _ (day : ProcessDay) (b : List ℕ) (t : Totals) (e : checkOf day b ≡ A
       ap length (body-is b ∙ ap assignmentsOf (v .bytes) ∙ file-body (v .window) (v .head) (v .body) g) ∙ bytes-length (v .body) (g .sized) in
       let s = fitted File (v .window) oneRecord [] headed (v .body) (omega arith) (omega arith) (g .meets) in
       record {
-        ten = length-take 81 b ∙ omega (arith, long-enough);
+        ten = length-take 81 b ∙ omega (arith, long-enough day b t e);
         whole = omega (arith, l);
         summable = subst Summable (sym i) (record { each = all-readable File (v .window) oneRecord [] headed (v .body) (g .meets); few = omega (arith, g .few); sum = omega (arith, s .sums) });
       }

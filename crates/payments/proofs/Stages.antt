@@ -1,4 +1,4 @@
--- A record in stages: what is sound of the whole is sound of each stage, and a table in six pieces.
+-- A record in stages, what excuses a wrong account, and what an account tells of its field.
 -- Assumes nothing.
 use Prim.Native.Nat.{ℕ}
 use mathlib.Core.Path.{_≡_, refl, ap, sym, _∙_}
@@ -10,32 +10,13 @@ use Rattle.fields.specs.Bytes.{every, isDigit}
 use Rattle.fields.specs.Accounts.{remainder, rightDigit, lastDigit, judged, accountOf, isNumber}
 use Rattle.fields.specs.declared.accounts.Account.{Account}
 use Rattle.fields.specs.declared.accounts.Account.the-variants.{Right, WrongDigit, NoRightDigit, NotDigits}
-use Rattle.figures.specs.declared.totals.Totals.{Totals}
-use Rattle.layout.specs.Findings.{orElse}
-use Rattle.layout.specs.Rows.{Row, firstFault}
 use Rattle.layout.specs.declared.Finding.{Finding}
 use Rattle.layout.specs.declared.Finding.the-variants.{Sound, Fault}
-use Rattle.layout.proofs.Laws.{pieces, or-else-both}
+use Rattle.layout.proofs.Laws.{fault-not-sound}
 
--- where two stages together are sound, each is
-pub first-sound : (a b x : Finding) → x ≡ orElse a b → x ≡ Sound → a ≡ Sound
-first-sound a b x e h = or-else-both a b (sym e ∙ h) .0
-
-pub second-sound : (a b x : Finding) → x ≡ orElse a b → x ≡ Sound → b ≡ Sound
-second-sound a b x e h = or-else-both a b (sym e ∙ h) .1
-
--- a table in six pieces
-pub six-pieces : (f : Totals) (ks r : List ℕ) (a b c d e z : List Row)
-    → firstFault f ks r (((((a ++ b) ++ c) ++ d) ++ e) ++ z)
-    ≡ orElse (orElse (orElse (orElse (orElse (firstFault f ks r a) (firstFault f ks r b)) (firstFault f ks r c)) (firstFault f ks r d)) (firstFault f ks r e)) (firstFault f ks r z)
-six-pieces f ks r a b c d e z =
-    pieces f ks r ((((a ++ b) ++ c) ++ d) ++ e) z
-    ∙ ap (λ (x : Finding). orElse x (firstFault f ks r z))
-    (pieces f ks r (((a ++ b) ++ c) ++ d) e
-    ∙ ap (λ (x : Finding). orElse x (firstFault f ks r e))
-    (pieces f ks r ((a ++ b) ++ c) d
-    ∙ ap (λ (x : Finding). orElse x (firstFault f ks r d))
-    (pieces f ks r (a ++ b) c ∙ ap (λ (x : Finding). orElse x (firstFault f ks r c)) (pieces f ks r a b))))
+-- a record that ends at a fault is not sound, and brings nothing
+pub no-value : {x y : Finding} {n k : ℕ} → x ≡ y → y ≡ Fault n k → x ≡ Sound → ⊥
+no-value {n = n} {k = k} e h s = fault-not-sound n k (sym h ∙ sym e ∙ s)
 
 -- for service 01 a reference excuses a wrong account, for service 04 the type does
 pub excused : (one reference four : Bool) → (one && reference || not one && four) ≡ (if one then reference else four)

@@ -9,35 +9,9 @@ use native.Mathlib.Omega.{arith}
 use borrow.Author.Tests.{eqb-true, eqb-false}
 use lib.Dec.{ltb, eqb}
 use Rattle.choice.specs.Choice.{if_then_else_}
-use Rattle.fields.proofs.Tests.{and-left, and-right}
+use Rattle.fields.proofs.Computed.{below, below-at, alike, alike-same}
 use Rattle.layout.specs.Rows.{member}
 use Rattle.rules.specs.Payments.{typesFor, isType}
-
--- a test holds at every number below n
-below : (ℕ → Bool) → ℕ → Bool
-below f zero = true
-below f (suc n) = f n && below f n
-
-below-at : (f : ℕ → Bool) (n : ℕ) → below f n ≡ true → (k : ℕ) → k < n → f k ≡ true
-unfolding below
-below-at f zero t k h = absurd (not-suc-le-zero h)
-below-at f (suc n) t k h = go (eqb k n) refl (λ l. below-at f n (and-right (f n) (below f n) t) k l)
-  where
-    go : (b : Bool) → eqb k n ≡ b → (k < n → f k ≡ true) → f k ≡ true
-    go true e ih = ap f (eqb-true k n e) ∙ and-left (f n) (below f n) t
-    go false e ih = let d = eqb-false k n e in ih (omega (arith, d))
-
-alike : Bool → Bool → Bool
-alike true b = b
-alike false true = false
-alike false false = true
-
-alike-same : (a b : Bool) → alike a b ≡ true → a ≡ b
-unfolding alike
-alike-same true true h = refl
-alike-same true false h = sym h
-alike-same false true h = h
-alike-same false false h = refl
 
 inBits : ℕ → Bool
 inBits t = ltb t 67 && eqb (0x400000210005101E / 2 ^ (t % 64) % 2) 1

@@ -9,12 +9,11 @@ ghost use lib.ListN.{length};
 ghost use Rattle.fields.specs.Bytes.{part};
 ghost use Rattle.fields.specs.Accounts.{isRight, isNumber};
 ghost use Rattle.fields.specs.Kids.{atRight, isReference};
-ghost use Rattle.layout.specs.Rules.{zeros};
 ghost use Rattle.layout.specs.Rows.{at, member, firstFault};
 ghost use Rattle.rules.specs.Codes.{serviceCode, typeCode};
-ghost use Rattle.rules.specs.Payments.{typesFor, isType, typeListed, ownLimit, limitFor, kidForm, kidFor};
+ghost use Rattle.rules.specs.Payments.{typesFor, isType, typeListed, ownLimit, limitFor, kidForm};
 ghost use Rattle.rules.specs.Layouts.{groupGives, belongs, party30};
-ghost use Rattle.payments.specs.Paid.{NumberedBy, DatedBy, PricedBy, PaidBy};
+ghost use Rattle.payments.specs.Paid.{NumberedBy, DatedBy, PricedBy, tail30, RestBy, PaidBy};
 use dates::Date;
 use dates::Day;
 use dates::Service;
@@ -75,9 +74,10 @@ fn head(r: &[u8], a: Assignment) -> Finding
     ensures { λ x. ⌜ ((f : Totals) (ks : List ℕ) → x ≡ firstFault f ks (now (r .entry)) ((groupGives a ∷ belongs a (now (r .entry))) ++ (at 3 5 6 (typeListed (serviceCode (now (r .entry)))) ∷ []))) ⌝ }
 {
     let group = a.group;
+    let service = a.service;
     Finding::Sound
         .demand(group.gives(a.due), 14, 0)
-        .or_else(common::belonging(r, a))
+        .or_else(common::belonging(r, service))
         .demand(
             listed(fields::places::code_at(r, 3), fields::places::code_at(r, 5)),
             7,
@@ -240,19 +240,69 @@ fn kid_sound(r: &[u8]) -> bool
         return fields::places::all_at(Class::Blank, r, 50, 74) | charge_kid(r);
     }
     if fields::places::code_at(r, 5) == 12 {
-        return fields::places::kid_at(r, 50, 74);
+        return fields::places::kid_at(r, 50);
     }
     fields::places::all_at(Class::Blank, r, 50, 74)
 }
 
-// Fields 9 and 10.
+// Fields 9 and 10. Where both hold, no fault is looked for.
 fn tail(r: &[u8]) -> Finding
     requires { ⌜ length (now r) ≡ 81 ⌝ }
-    ensures { λ x. ⌜ ((f : Totals) (ks : List ℕ) → x ≡ firstFault f ks (now (r .entry)) (at 9 50 74 (kidFor (serviceCode (now (r .entry))) (typeCode (now (r .entry)))) ∷ at 10 75 80 zeros ∷ [])) ⌝ }
+    ensures { λ x. ⌜ ((f : Totals) (ks : List ℕ) → x ≡ firstFault f ks (now (r .entry)) (tail30 (now (r .entry)))) ⌝ }
 {
-    Finding::Sound
-        .demand(kid_sound(r), 8, 9)
-        .demand(fields::places::all_at(Class::Zero, r, 75, 80), 7, 10)
+    let kid = kid_sound(r);
+    let zero = fields::places::all_at(Class::Zero, r, 75, 80);
+    if kid & zero {
+        return Finding::Sound;
+    }
+    Finding::Sound.demand(kid, 8, 9).demand(zero, 7, 10)
+}
+
+// A record 30 with a fault brings nothing.
+fn wrong(finding: Finding) -> Paid
+    ensures { λ x. ⌜ x .finding ≡ finding ⌝ }
+{
+    Paid {
+        finding,
+        number: TransactionNumber(0),
+        date: Date(0),
+        amount: Amount(0),
+    }
+}
+
+// Fields 6 to 10 of a record 30 of this number, which end at the first fault.
+fn behind_number(
+    r: &[u8],
+    w: Window,
+    a: Assignment,
+    file: Totals,
+    number: TransactionNumber,
+) -> Paid
+    requires { ⌜ length (now r) ≡ 81 ⌝ }
+    ensures { λ x. ⌜ ((ks : List ℕ) → RestBy w a file ks (now (r .entry)) number x) ⌝ }
+{
+    let dated = date(r, w, a);
+    let date_found = dated.finding;
+    let Finding::Sound = date_found else {
+        return wrong(date_found);
+    };
+    let party_found = party(r);
+    let Finding::Sound = party_found else {
+        return wrong(party_found);
+    };
+    let priced = amount(r, a, file);
+    let amount_found = priced.finding;
+    let Finding::Sound = amount_found else {
+        return wrong(amount_found);
+    };
+    let date = dated.date;
+    let amount = priced.amount;
+    Paid {
+        finding: tail(r),
+        number,
+        date,
+        amount,
+    }
 }
 
 // Record 30 whole: the first fault in the order of its fields, or what it brings.
@@ -260,23 +310,14 @@ pub fn check30(r: &[u8], w: Window, a: Assignment, file: Totals) -> Paid
     requires { ⌜ length (now r) ≡ 81 ⌝ }
     ensures { λ x. ⌜ ((ks : List ℕ) → PaidBy w a file ks (now (r .entry)) x) ⌝ }
 {
+    let head_found = head(r, a);
+    let Finding::Sound = head_found else {
+        return wrong(head_found);
+    };
     let numbered = number(r, a);
     let number_found = numbered.finding;
-    let number = numbered.number;
-    let dated = date(r, w, a);
-    let date_found = dated.finding;
-    let date = dated.date;
-    let priced = amount(r, a, file);
-    let amount_found = priced.finding;
-    let amount = priced.amount;
-    Paid {
-        finding: head(r, a).or_else(number_found)
-            .or_else(date_found)
-            .or_else(party(r))
-            .or_else(amount_found)
-            .or_else(tail(r)),
-        number,
-        date,
-        amount,
-    }
+    let Finding::Sound = number_found else {
+        return wrong(number_found);
+    };
+    behind_number(r, w, a, file, numbered.number)
 }

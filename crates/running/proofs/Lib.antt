@@ -1,4 +1,5 @@
 pub mod Steps
+pub mod Keys
 pub mod Bounds
 pub mod Records
 pub mod Loop

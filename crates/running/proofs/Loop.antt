@@ -3,8 +3,8 @@
 use Prim.Native.Nat.{ℕ, zero, suc, _+_, _-_, _*_, _/_, _≤_, _<_}
 use mathlib.Core.Path.{_≡_, refl, sym, ap, subst, _∙_}
 use mathlib.Core.Logic.{_⊎_, inl, inr, ⊎-elim}
-use mathlib.Core.List.{List, [], _∷_, _++_}
-use mathlib.Core.Bool.{Bool, true, false}
+use mathlib.Core.List.{List, [], _∷_, _++_, append-assoc, append-nil}
+use mathlib.Core.Bool.{Bool, true, false, false≢true}
 use native.Mathlib.Omega.{arith}
 use native.Mathlib.Numerals.{add-one}
 use lib.ListN.{length, take, drop, set}
@@ -16,16 +16,20 @@ use Rattle.layout.specs.Rows.{firstFault}
 use Rattle.layout.specs.declared.Finding.the-variants.{Sound}
 use Rattle.rules.specs.Codes.{kindOf, keyIn}
 use Rattle.rules.specs.Layouts.{rows}
-use Rattle.rules.specs.Growth.{gainFor, gain, keysFor, keys, after, start}
-use Rattle.rules.specs.Run.{refused, stepOf, atEnd, run, chunks, recordsOf}
+use Rattle.rules.specs.Order.{mayFollow, mayEnd}
+use Rattle.rules.specs.Growth.{gainFor, gain, keysFor, keys, allKeys, after, afterFor, start}
+use Rattle.rules.specs.Run.{refused, stepOf, ended, atEnd, run, chunks, recordsOf}
 use Rattle.rules.specs.declared.Kind.{Kind}
 use Rattle.rules.specs.declared.Kind.the-variants.{R10, R20, R30, R31, R40, R49, R50, R88, R89, Other}
 use Rattle.rules.specs.declared.Mode.{Mode}
 use Rattle.rules.specs.declared.State.{State}
 use Rattle.rules.specs.declared.Step.the-variants.{Next, Stop}
 use Rattle.rules.specs.declared.Verdict.{Verdict}
+use Rattle.rules.specs.declared.Verdict.the-variants.{Accepted}
+use Rattle.choice.specs.Choice.{if_then_else_}
+use Rattle.figures.specs.declared.totals.Totals.{Totals}
 use Rattle.running.specs.Kept.{Keyed, Kept}
-use Rattle.running.proofs.Steps.{went-on, run-next, run-stop, table-holds, table-of, Opens, opens}
+use Rattle.running.proofs.Steps.{went-on, run-next, run-stop, table-holds, table-of, may-stand, never-other, Opens, opens}
 use Rattle.running.proofs.Bounds.{small-next}
 use Rattle.running.proofs.Records.{rest, rest-next, rest-end, rest-start, part-long}
 
@@ -46,6 +50,41 @@ one-or-none Other r = inl refl
 pub put-key : (l : List ℕ) (n v : ℕ) (r : List ℕ) → n < length l → v ≡ keyIn r → take (n + 1) (set l n v) ≡ take n l ++ (keyIn r ∷ [])
 put-key l n v r h e = rw (add-one, take-suc-set l n v h, e)
 
+-- the keys of a record and those behind it
+keys-next : (r : List ℕ) (rs : List (List ℕ)) → allKeys (r ∷ rs) ≡ keys r ++ allKeys rs
+unfolding allKeys
+keys-next r rs = refl
+
+no-keys : allKeys [] ≡ []
+unfolding allKeys
+no-keys = refl
+
+-- a sound record stands in the state behind it as the last one
+last-is : (k : Kind) (st : State) (r : List ℕ) → (k ≡ Other → ⊥) → afterFor k st r .assignment .last ≡ k
+last-is R10 st r h = refl
+last-is R20 st r h = refl
+last-is R30 st r h = refl
+last-is R31 st r h = refl
+last-is R40 st r h = refl
+last-is R49 st r h = refl
+last-is R50 st r h = refl
+last-is R88 st r h = refl
+last-is R89 st r h = refl
+last-is Other st r h = absurd (h refl)
+
+-- what is accepted is the file's totals; a refusal is not accepted
+pub accepted : (m : Mode) (i : ℕ) (st : State) (t : Totals) → atEnd m i st ≡ Accepted t → st .file ≡ t
+unfolding atEnd
+accepted m i st t e = go (mayEnd m (st .assignment)) (ended m (st .assignment)) e
+  where
+    go : (p q : Bool) → (if p then (if q then Accepted (st .file) else refused 14 0 (i + 1) 0) else refused 6 0 (i + 1) 0) ≡ Accepted t → st .file ≡ t
+    go true true h = cc
+    go true false h = cc
+    go false q h = cc
+
+pub not-accepted : (n i k : ℕ) (x : Verdict) (t : Totals) → x ≡ refused n 0 i k → x ≡ Accepted t → ⊥
+not-accepted n i k x t e h = let z : _≡_ {A = ℕ} 0 1 = cc in omega arith
+
 -- behind k of n records of b
 pub record At (m : Mode) (w : Window) (b : List ℕ) (n : ℕ) (st : State) (kept : List ℕ) (used k : ℕ) : Type 0 where
   pub within : k ≤ n
@@ -56,6 +95,7 @@ pub record At (m : Mode) (w : Window) (b : List ℕ) (n : ℕ) (st : State) (kep
   pub most : used ≤ 500
   pub small : Small k st
   pub same : run m w 0 start [] (chunks n b) ≡ run m w k st (take used kept) (rest b n k)
+  pub found : allKeys (chunks n b) ≡ take used kept ++ allKeys (rest b n k)
 
 pub small-start : Small 0 start
 small-start =
@@ -89,6 +129,7 @@ module _ (m : Mode) (w : Window) (b : List ℕ) (n : ℕ) where
         most = omega arith;
         small = subst (Small 0) (sym e) small-start;
         same = ap (run m w 0 start []) (sym (rest-start b n)) ∙ ap (λ (x : State). run m w 0 x [] (rest b n 0)) (sym e);
+        found = ap allKeys (sym (rest-start b n));
       }
 
   module _ (st : State) (kept : List ℕ) (used k : ℕ) (a : At m w b n st kept used k) (h : k < n) (r : List ℕ) (e : r ≡ take 81 (drop (81 * k) b)) where
@@ -111,6 +152,12 @@ module _ (m : Mode) (w : Window) (b : List ℕ) (n : ℕ) where
 
       opening : kindOf r ≡ R20 → Opens (st .file) r
       opening p = opens (st .file) (take used kept) (st .assignment) r (table-of m w st (take used kept) r R20 p sound)
+
+      -- no record of another type gets this far, so the state tells the record's type
+      pub told : s .assignment .last ≡ kindOf r
+      told =
+          ap (λ (x : State). x .assignment .last) (sym (went-on m w st (take used kept) r s (sym q) .1))
+          ∙ last-is (kindOf r) st r (λ p. false≢true (sym (never-other m (st .assignment)) ∙ ap (mayFollow m (st .assignment)) (sym p) ∙ may-stand m w st (take used kept) r sound))
 
       pub keyed : Keyed r used
       keyed =
@@ -139,9 +186,17 @@ module _ (m : Mode) (w : Window) (b : List ℕ) (n : ℕ) where
             same =
                 a .same ∙ ap (run m w k st (take used kept)) here ∙ run-next m w st (take used kept) r k (rest b n (k + 1)) s (sym q)
                 ∙ ap (λ (x : List ℕ). run m w (k + 1) s x (rest b n (k + 1))) (sym (v .same));
+            found =
+                a .found ∙ ap (λ (x : List (List ℕ)). take used kept ++ allKeys x) here ∙ ap (λ (x : List ℕ). take used kept ++ x) (keys-next r (rest b n (k + 1)))
+                ∙ sym (append-assoc (take used kept) (keys r) (allKeys (rest b n (k + 1)))) ∙ ap (λ (x : List ℕ). x ++ allKeys (rest b n (k + 1))) (sym (v .same));
           }
 
-  -- nothing is left
+  -- nothing is left: the keys are those of the whole
+  pub keys-last : (st : State) (kept : List ℕ) (used k : ℕ) → At m w b n st kept used k → n ≤ k → (t : Totals) → st .file ≡ t → take (t .assignments .0) kept ≡ allKeys (chunks n b)
+  keys-last st kept used k a h t e =
+      ap (λ (i : ℕ). take i kept) (ap (λ (x : Totals). x .assignments .0) (sym e) ∙ sym (a .counted))
+      ∙ sym (a .found ∙ ap (λ (x : List (List ℕ)). take used kept ++ allKeys x) (rest-end b n k (omega (arith, a .within))) ∙ ap (λ (x : List ℕ). take used kept ++ x) no-keys ∙ append-nil (take used kept))
+
   pub at-last : (st : State) (kept : List ℕ) (used k : ℕ) → At m w b n st kept used k → n ≤ k → run m w 0 start [] (chunks n b) ≡ atEnd m k st
   unfolding run
   at-last st kept used k a h = a .same ∙ ap (run m w k st (take used kept)) (rest-end b n k (omega (arith, a .within)))

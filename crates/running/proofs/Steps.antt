@@ -102,6 +102,13 @@ module _ (m : Mode) (w : Window) (st : State) (ks r : List ℕ) where
       let b : AllHold (st .file) ks r (must (mayFollow m (st .assignment) (kindOf r)) 5 4 ∷ tableFor (kindOf r) w (st .assignment) r) = unfold AllHold in a .1 in
       unfold AllHold in b .1
 
+  -- a sound record may stand here
+  pub may-stand : firstFault (st .file) ks r (rows m w (st .assignment) r) ≡ Sound → mayFollow m (st .assignment) (kindOf r) ≡ true
+  may-stand e =
+      let a : AllHold (st .file) ks r (rows m w (st .assignment) r) = all-of-sound (st .file) ks r _ e in
+      let b : AllHold (st .file) ks r (must (mayFollow m (st .assignment) (kindOf r)) 5 4 ∷ tableFor (kindOf r) w (st .assignment) r) = unfold AllHold in a .1 in
+      unfold AllHold in b .0
+
   pub table-of : (k : Kind) → kindOf r ≡ k → firstFault (st .file) ks r (rows m w (st .assignment) r) ≡ Sound → AllHold (st .file) ks r (tableFor k w (st .assignment) r)
   table-of k q e = subst (λ (x : Kind). AllHold (st .file) ks r (tableFor x w (st .assignment) r)) q (table-holds e)
 

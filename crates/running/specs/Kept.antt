@@ -8,11 +8,17 @@ use lib.ListN.{length, take}
 use Rattle.fields.specs.Bytes.{every, isDigit, part}
 use Rattle.figures.specs.Totals.{_⊕_, oneRecord}
 use Rattle.figures.specs.declared.groups.Group.{Group}
+use Rattle.figures.specs.declared.totals.Totals.{Totals}
+use Rattle.dates.specs.declared.Window.{Window}
 use Rattle.rules.specs.Codes.{kindOf}
-use Rattle.rules.specs.Growth.{passed, gain, keys}
+use Rattle.rules.specs.Growth.{passed, start, gain, keys, allKeys}
+use Rattle.rules.specs.Run.{run, recordsOf}
 use Rattle.rules.specs.declared.Kind.{Kind}
 use Rattle.rules.specs.declared.Kind.the-variants.{R20}
+use Rattle.rules.specs.declared.Mode.{Mode}
 use Rattle.rules.specs.declared.State.{State}
+use Rattle.rules.specs.declared.Verdict.{Verdict}
+use Rattle.rules.specs.declared.Verdict.the-variants.{Accepted}
 
 -- the state behind a record that brings no transaction
 abbrev pub passedOn : Kind → Group → ℕ → State → State
@@ -30,3 +36,8 @@ pub record Keyed (r : List ℕ) (used : ℕ) : Type 0 where
 pub record Kept (r before : List ℕ) (used : ℕ) (after : List ℕ) (n : ℕ) : Type 0 where
   pub count : n ≡ used + gain r .assignments .0
   pub same : take n after ≡ take used before ++ keys r
+
+-- what a run over a file or a draft answers, and the keys that it leaves where the input is accepted
+pub record Ran (m : Mode) (w : Window) (b kept : List ℕ) (x : Verdict) : Type 0 where
+  pub verdict : x ≡ run m w 0 start [] (recordsOf b)
+  pub found : (t : Totals) → x ≡ Accepted t → take (t .assignments .0) kept ≡ allKeys (recordsOf b)

@@ -8,9 +8,9 @@ ghost use lib.ListN.{length, take};
 ghost use Rattle.figures.specs.Totals.{_⊕_, oneRecord};
 ghost use Rattle.growth.specs.Bounds.{Small};
 ghost use Rattle.rules.specs.Growth.{passed, start, gain, keys};
-ghost use Rattle.rules.specs.Codes.{serviceCode, serviceFor};
+ghost use Rattle.rules.specs.Codes.{serviceCode, serviceFor, kindOf};
 ghost use Rattle.rules.specs.Run.{refused, stepped, kindStep, stepOf, ended, atEnd, run, recordsOf};
-ghost use Rattle.running.specs.Kept.{passedOn, Keyed, Kept};
+ghost use Rattle.running.specs.Kept.{passedOn, Keyed, Kept, Ran};
 use dates::Service;
 use dates::Window;
 use figures::groups::Group;
@@ -70,8 +70,8 @@ fn service_of(r: &[u8]) -> Service
     Service::Remittance
 }
 
-fn step20(st: State, r: &[u8], keys: &[u64; 500], used: usize) -> Step
-    requires { ⌜ (length (now r) ≡ 81) × Small 200000 st × (used ≤ 500) ⌝ }
+fn step20(st: State, r: &[u8], keys: &[u64], used: usize) -> Step
+    requires { ⌜ (length (now r) ≡ 81) × Small 200000 st × (used ≤ length (now keys)) ⌝ }
     ensures { λ x. ⌜ ((w : Window) → x ≡ kindStep Kind.R20 w st (take used (now (keys .entry))) (now (r .entry))) ⌝ }
 {
     let file = st.file;
@@ -187,8 +187,8 @@ fn step89(st: State, r: &[u8]) -> Step
 }
 
 // A record whose type may stand here.
-fn step_for(kind: Kind, w: Window, st: State, r: &[u8], keys: &[u64; 500], used: usize) -> Step
-    requires { ⌜ (length (now r) ≡ 81) × Small 200000 st × (used ≤ 500) × (kind ≡ Kind.Other → ⊥) ⌝ }
+fn step_for(kind: Kind, w: Window, st: State, r: &[u8], keys: &[u64], used: usize) -> Step
+    requires { ⌜ (length (now r) ≡ 81) × Small 200000 st × (used ≤ length (now keys)) × (kind ≡ Kind.Other → ⊥) ⌝ }
     ensures { λ x. ⌜ x ≡ kindStep kind w st (take used (now (keys .entry))) (now (r .entry)) ⌝ }
 {
     match kind {
@@ -206,15 +206,8 @@ fn step_for(kind: Kind, w: Window, st: State, r: &[u8], keys: &[u64; 500], used:
 }
 
 // One record behind the state; the first `used` keys are those of the assignments before.
-pub fn take_record(
-    mode: Mode,
-    w: Window,
-    st: State,
-    r: &[u8],
-    keys: &[u64; 500],
-    used: usize,
-) -> Step
-    requires { ⌜ (length (now r) ≡ 81) × Small 200000 st × (used ≤ 500) ⌝ }
+pub fn take_record(mode: Mode, w: Window, st: State, r: &[u8], keys: &[u64], used: usize) -> Step
+    requires { ⌜ (length (now r) ≡ 81) × Small 200000 st × (used ≤ length (now keys)) ⌝ }
     ensures { λ x. ⌜ x ≡ stepOf mode w st (take used (now (keys .entry))) (now (r .entry)) ⌝ }
 {
     if r[80] != 10 {
@@ -229,11 +222,11 @@ pub fn take_record(
 }
 
 // Keeps the key of a sound record 20 behind the others, and answers how many are kept.
-pub fn keep_key(r: &[u8], keys: &mut [u64], used: usize) -> usize
-    requires { ⌜ Keyed (now r) used × (length (now keys) ≡ 500) ⌝ }
+pub fn keep_key(kind: Kind, r: &[u8], keys: &mut [u64], used: usize) -> usize
+    requires { ⌜ Keyed (now r) used × (length (now keys) ≡ 500) × (kind ≡ kindOf (now r)) ⌝ }
     ensures { λ x. ⌜ Kept (now (r .entry)) (now (keys .entry)) used (now (keys .exit)) x ⌝ }
 {
-    if fields::places::code_at(r, 7) == 20 {
+    if order::number_of(kind) == 20 {
         keys[used] = starts::key_of(r);
         return used + 1;
     }
@@ -291,26 +284,27 @@ fn begin() -> State
     }
 }
 
-// All records in turn: each is handed on as its own 81 bytes.
-pub fn run_over(mode: Mode, w: Window, bytes: &[u8]) -> Verdict
-    requires { ⌜ length (now bytes) / 81 ≤ 200000 ⌝ }
-    ensures { λ x. ⌜ x ≡ run mode w 0 start [] (recordsOf (now (bytes .entry))) ⌝ }
+// All records in turn: each is handed on as its own 81 bytes. The keys of the assignments are left in what is lent.
+pub fn run_over(mode: Mode, w: Window, bytes: &[u8], kept: &mut [u64]) -> Verdict
+    requires { ⌜ (length (now bytes) / 81 ≤ 200000) × (length (now kept) ≡ 500) ⌝ }
+    ensures { λ x. ⌜ Ran mode w (now (bytes .entry)) (now (kept .exit)) x ⌝ }
 {
     let count = bytes.len() / 81;
     let mut st = begin();
-    let mut kept = [0u64; 500];
     let mut used: usize = 0;
     let mut k: usize = 0;
     while k < count {
         let at = 81 * k;
         let end = at + 81;
         let r = &bytes[at..end];
-        match take_record(mode, w, st, r, &kept, used) {
+        match take_record(mode, w, st, r, kept, used) {
             Step::Stop(number, field) => {
                 return refusal(number, k, field);
             }
             Step::Next(next) => {
-                used = keep_key(r, &mut kept, used);
+                let a = next.assignment;
+                let kind = a.last;
+                used = keep_key(kind, r, kept, used);
                 st = next;
             }
         }

@@ -12,7 +12,6 @@ ghost use Rattle.rules.specs.Codes.{keyIn};
 ghost use Rattle.rules.specs.Layouts.{record10, record20};
 ghost use Rattle.starts.specs.Stages.{opens, head20, newKey, account20};
 use fields::accounts::Account;
-use fields::classes::Class;
 use fields::digits::Digits;
 use figures::totals::Totals;
 use layout::Finding;
@@ -37,7 +36,7 @@ pub fn check10(r: &[u8]) -> Finding
         .or_else(digits_at(r, 9, 16, 5))
         .or_else(digits_at(r, 17, 23, 6))
         .demand(fields::places::same_at(r, 24, 31, b"00008080"), 7, 7)
-        .demand(fields::places::all_at(Class::Zero, r, 32, 80), 7, 8)
+        .demand(fields::places::zeros_from(r, 32), 7, 8)
 }
 
 // An agreement and an assignment number as one key.
@@ -63,7 +62,7 @@ pub fn key_of(r: &[u8]) -> u64
 }
 
 // The key stands among the first `used`. No early exit: the loop becomes vector code.
-fn seen(keys: &[u64], used: usize, key: u64) -> bool
+pub fn seen(keys: &[u64], used: usize, key: u64) -> bool
     requires { ⌜ used ≤ length (now keys) ⌝ }
     ensures { λ x. ⌜ x ≡ member key (take used (now (keys .entry))) ⌝ }
 {
@@ -136,5 +135,5 @@ pub fn check20(r: &[u8], a: Assignment, file: Totals, keys: &[u64], used: usize)
         .or_else(fixed20(r))
         .or_else(new_key(r, keys, used))
         .or_else(account(r))
-        .demand(fields::places::all_at(Class::Zero, r, 36, 80), 7, 8)
+        .demand(fields::places::zeros_from(r, 36), 7, 8)
 }

@@ -26,13 +26,16 @@ returns c =
     let a = c .before .before .before .before .before .args in
     c .refuse .ensures ∙ no-day (a .day) (a .file .now) _ (c .before .before .before .window .ensures) (c .before .enum-told .given .1)
 
+slice-aggregate-judge : tie.Need-slice-aggregate-judge
+slice-aggregate-judge c = search needs
+
 judge-requires : tie.Need-judge-requires
 judge-requires c κs = search needs
 
 returns-2 : tie.Need-returns-2
 returns-2 c =
-    let a = c .before .before .before .before .before .before .args in
-    c .judge .ensures ∙ on-day (a .day) (a .file .now) _ (c .before .before .before .before .window .ensures) _ (c .before .before .w .given .1)
+    let a = c .before .before .before .before .before .before .before .before .args in
+    c .before .judge .ensures .0 ∙ on-day (a .day) (a .file .now) _ (c .before .before .before .before .before .before .window .ensures) _ (c .before .before .before .before .w .given .1)
 
 pub check-spec : {M : Type 1} → statement M
 check-spec =
@@ -43,5 +46,6 @@ check-spec =
     enum-told
     refuse-requires
     returns
+    slice-aggregate-judge
     judge-requires
     returns-2)

@@ -1,5 +1,5 @@
 use mathlib.Core.Path.{_≡_, _∙_}
-use Rattle.checking.proofs.Whole.{wrong-length, too-many, in-turn}
+use Rattle.checking.proofs.Whole.{wrong-length, too-many, in-turn, no-figures}
 use borrow.Author.Needs.{needs}
 use Rattle.checking.proofs.judge.Statement.{statement}
 use Rattle.checking.proofs.judge.Tie as tie
@@ -17,24 +17,27 @@ refuse-requires c κs = search needs
 
 returns : tie.Need-returns
 returns c =
-    let a = c .before .before .before .before .args in
-    c .refuse .ensures ∙ wrong-length (a .w) (a .file .now) _ (c .before .before .bad-length .ensures) (c .before .if1 .taken)
+    let a = c .before .before .before .before .before .args in
+    (c .refuse .ensures ∙ wrong-length (a .w) (a .file .now) _ (c .before .before .bad-length .ensures) (c .before .if1 .taken), λ t q. absurd (no-figures _ 2 t (c .refuse .ensures) q))
 
 refuse-requires-2 : tie.Need-refuse-requires-2
 refuse-requires-2 c κs = search needs
 
 returns-2 : tie.Need-returns-2
 returns-2 c =
-    let a = c .before .before .before .before .before .args in
-    c .refuse2 .ensures ∙ too-many (a .w) (a .file .now) _ (c .before .before .before .bad-length .ensures) (c .before .before .if1 .left) (c .before .if2 .taken)
+    let a = c .before .before .before .before .before .before .args in
+    (c .refuse2 .ensures ∙ too-many (a .w) (a .file .now) _ (c .before .before .before .bad-length .ensures) (c .before .before .if1 .left) (c .before .if2 .taken), λ t q. absurd (no-figures _ 3 t (c .refuse2 .ensures) q))
 
 run-over-requires : tie.Need-run-over-requires
 run-over-requires c κs = search needs
 
+same-length : tie.Need-same-length
+same-length c = search needs
+
 returns-3 : tie.Need-returns-3
 returns-3 c =
-    let a = c .before .before .before .before .before .args in
-    c .run-over .ensures ∙ in-turn (a .w) (a .file .now) _ (c .before .before .before .bad-length .ensures) (c .before .before .if1 .left) (c .before .if2 .left)
+    let a = c .before .before .before .before .before .before .before .before .before .args in
+    (c .before .before .run-over .ensures .verdict ∙ in-turn (a .w) (a .file .now) _ (c .before .before .before .before .before .before .bad-length .ensures) (c .before .before .before .before .before .if1 .left) (c .before .before .before .before .if2 .left), c .before .before .run-over .ensures .found)
 
 pub judge-spec : {M : Type 1} → statement M
 judge-spec =
@@ -46,4 +49,5 @@ judge-spec =
     refuse-requires-2
     returns-2
     run-over-requires
+    same-length
     returns-3)

@@ -43,6 +43,9 @@ returns-2 c =
     let a = c .before .before .before .before .before .before .args in
     c .refuse2 .ensures ∙ too-many (a .w) (a .draft .now) _ (c .before .before .before .before .bad-length .ensures) (c .before .before .before .if1 .left) _ (c .before .before .openings-in .ensures .0) (c .before .if2 .taken)
 
+slice-aggregate-run-over : tie.Need-slice-aggregate-run-over
+slice-aggregate-run-over c = search needs
+
 run-over-requires : tie.Need-run-over-requires
 run-over-requires c κs = search needs
 
@@ -54,19 +57,19 @@ enum-known-t c = search needs
 
 closed-figures-requires : tie.Need-closed-figures-requires
 closed-figures-requires c κs =
-    let a = c .before .before .before .before .before .before .before .before .before .args in
-    can-close (a .w) (a .draft .now) _ (c .before .before .before .before .before .openings-in .ensures .0) (c .before .before .before .before .before .openings-in .ensures .1) (omega arith) _ (sym (c .before .before .before .run-over .ensures) ∙ c .before .t .given .1)
+    let a = c .before .before .before .before .before .before .before .before .before .before .before .args in
+    can-close (a .w) (a .draft .now) _ (c .before .before .before .before .before .before .before .openings-in .ensures .0) (c .before .before .before .before .before .before .before .openings-in .ensures .1) (omega arith) _ (sym (c .before .before .before .before .run-over .ensures .verdict) ∙ c .before .t .given .1)
 
 returns-3 : tie.Need-returns-3
 returns-3 c =
-    let a = c .before .before .before .before .before .before .before .before .before .args in
-    on-refused (a .w) (a .draft .now) _ (c .before .before .before .before .before .before .before .bad-length .ensures) (c .before .before .before .before .before .before .if1 .left) _ (c .before .before .before .before .before .openings-in .ensures .0) (c .before .before .before .before .if2 .left) _ (sym (c .before .before .before .run-over .ensures) ∙ c .before .refusal .given .1)
+    let a = c .before .before .before .before .before .before .before .before .before .before .before .args in
+    on-refused (a .w) (a .draft .now) _ (c .before .before .before .before .before .before .before .before .before .bad-length .ensures) (c .before .before .before .before .before .before .before .before .if1 .left) _ (c .before .before .before .before .before .before .before .openings-in .ensures .0) (c .before .before .before .before .before .before .if2 .left) _ (sym (c .before .before .before .before .run-over .ensures .verdict) ∙ c .before .refusal .given .1)
 
 returns-4 : tie.Need-returns-4
 returns-4 c =
-    let a = c .before .before .before .before .before .before .before .before .before .before .args in
+    let a = c .before .before .before .before .before .before .before .before .before .before .before .before .args in
     ap Accepted (c .closed-figures .ensures)
-    ∙ on-accepted (a .w) (a .draft .now) _ (c .before .before .before .before .before .before .before .before .bad-length .ensures) (c .before .before .before .before .before .before .before .if1 .left) _ (c .before .before .before .before .before .before .openings-in .ensures .0) (c .before .before .before .before .before .if2 .left) _ (sym (c .before .before .before .before .run-over .ensures) ∙ c .before .before .t .given .1)
+    ∙ on-accepted (a .w) (a .draft .now) _ (c .before .before .before .before .before .before .before .before .before .before .bad-length .ensures) (c .before .before .before .before .before .before .before .before .before .if1 .left) _ (c .before .before .before .before .before .before .before .before .openings-in .ensures .0) (c .before .before .before .before .before .before .before .if2 .left) _ (sym (c .before .before .before .before .before .run-over .ensures .verdict) ∙ c .before .before .t .given .1)
 
 pub weigh-spec : {M : Type 1} → statement M
 weigh-spec =
@@ -80,6 +83,7 @@ weigh-spec =
     add-if2-2
     refuse-requires-2
     returns-2
+    slice-aggregate-run-over
     run-over-requires
     enum-known-refusal
     enum-known-t

@@ -30,11 +30,11 @@ demand-requires-2 : tie.Need-demand-requires-2
 demand-requires-2 c κs = search needs
 
 returns : tie.Need-returns
-returns c = λ f ks.
+returns c = λ a e f ks.
     let p = c .before .before .before in
-    let a = p .before .before .before .before .args in
-    simp (c .demand2 .ensures, c .before .code-for .ensures, c .before .before .code-at .ensures, p .demand .ensures, p .before .same-at .ensures)
-    (sym (demands f ks (a .r .now) (belongs (a .a) (a .r .now))))
+    let r = p .before .before .before .before .args .r .now in
+    simp (c .demand2 .ensures, c .before .code-for .ensures, c .before .before .code-at .ensures, p .demand .ensures, p .before .same-at .ensures, ← e)
+    (sym (demands f ks r (belongs a r)))
 
 pub belonging-spec : {M : Type 1} → statement M
 belonging-spec =

@@ -9,6 +9,7 @@ use Rattle.fields.proofs.Width.{below-at}
 use Rattle.layout.specs.Findings.{demanded}
 use Rattle.layout.specs.declared.Finding.the-variants.{Sound}
 use Rattle.layout.proofs.Laws.{next, stop, demands, digits-pass, digits-fail, value-is}
+use Rattle.figures.specs.declared.counts.TransactionNumber.{TransactionNumber}
 use borrow.Author.Needs.{needs}
 use Rattle.common.proofs.same_number.Statement.{statement}
 use Rattle.common.proofs.same_number.Tie as tie
@@ -32,12 +33,12 @@ enum-told : tie.Need-enum-told
 enum-told c = search needs
 
 returns : tie.Need-returns
-returns c = λ f ks. sym (stop f ks _ _ _ (digits-fail _ _ (c .before .before .number-at .ensures) (c .enum-told .given .1)))
+returns c = λ a e f ks. sym (stop f ks _ _ _ (digits-fail _ _ (c .before .before .number-at .ensures) (c .enum-told .given .1)))
 
 numbered-requires : tie.Need-numbered-requires
 numbered-requires c κs =
-    let p = c .before .before .before .before .before .before in
-    below-at 9 15 (p .args .r .now) _ (inside (p .args .r .now) (p .pre)) (sym (c .before .before .before .before .number-at .ensures) ∙ c .before .before .n .given .1)
+    let p = c .before .before .before .before .before in
+    below-at 9 15 (p .args .r .now) _ (inside (p .args .r .now) (p .pre)) (sym (c .before .before .before .number-at .ensures) ∙ c .before .n .given .1)
 
 equals-requires : tie.Need-equals-requires
 equals-requires c κs = search needs
@@ -46,12 +47,14 @@ demand-requires : tie.Need-demand-requires
 demand-requires c κs = search needs
 
 returns-2 : tie.Need-returns-2
-returns-2 c = λ f ks.
-    let q = c .before .before .before .before .before in
-    let a = q .before .before .before .before .args in
+returns-2 c = λ a e f ks.
+    let q = c .before .before .before .before in
     let read = q .before .before .number-at .ensures in
+    let known = value-is _ _ read _ (q .n .given .1) in
     simp (c .demand .ensures, c .before .equals .ensures, c .before .before .numbered .ensures)
-    (sym (next f ks _ _ _ (digits-pass _ _ read _ (q .n .given .1)) ∙ demands f ks _ _ ∙ ap (λ (x : ℕ). demanded Sound (eqb x (a .a .number .0)) 12 5) (value-is _ _ read _ (q .n .given .1))))
+    (sym
+    (next f ks _ _ _ (digits-pass _ _ read _ (q .n .given .1)) ∙ demands f ks _ _ ∙ ap (λ (x : ℕ). demanded Sound (eqb x (a .number .0)) 12 5) known
+    ∙ ap (λ (m : TransactionNumber). demanded Sound (eqb (q .n .given .0 .0) (m .0)) 12 5) e))
 
 pub same-number-spec : {M : Type 1} → statement M
 same-number-spec =

@@ -1,72 +1,43 @@
--- Record 31 is checked row by row behind what it repeats.
+-- Record 31: what it repeats, and where that is sound, its own fields.
 -- Assumes nothing.
-use mathlib.Core.Path.{sym}
-use mathlib.Core.List.{List, [], _∷_}
-use borrow.Author.Needs.{needs}
-use Rattle.layout.specs.Rules.{textual, zeros}
-use Rattle.layout.specs.Rows.{Row, at}
-use Rattle.layout.proofs.Laws.{rows-behind}
+use mathlib.Core.Path.{refl, sym, _∙_}
+use Rattle.layout.proofs.Laws.{ends-here, goes-on}
 use Rattle.rules.specs.Layouts.{repeats}
+use Rattle.details.specs.Pieces.{texts31}
+use borrow.Author.Needs.{needs}
 use Rattle.details.proofs.check31.Statement.{statement}
 use Rattle.details.proofs.check31.Tie as tie
+use Rattle.details.proofs.check31.Reads as reads
+use Rattle.details.proofs.check31.Lts as lts
+use Rattle.common.proofs.repeating.Reads as repeating-reads
+use Rattle.details.proofs.texts.Reads as texts-reads
 
 repeating-requires : tie.Need-repeating-requires
 repeating-requires c κs = search needs
 
-all-at-requires : tie.Need-all-at-requires
-all-at-requires c κs = search needs
+enum-known-head : tie.Need-enum-known-head
+enum-known-head c = search needs
 
-demand-requires : tie.Need-demand-requires
-demand-requires c κs = search needs
+enum-told : tie.Need-enum-told
+enum-told c = search needs
 
-all-at-requires-2 : tie.Need-all-at-requires-2
-all-at-requires-2 c κs = search needs
-
-demand-requires-2 : tie.Need-demand-requires-2
-demand-requires-2 c κs = search needs
-
-all-at-requires-3 : tie.Need-all-at-requires-3
-all-at-requires-3 c κs = search needs
-
-demand-requires-3 : tie.Need-demand-requires-3
-demand-requires-3 c κs = search needs
-
-all-at-requires-4 : tie.Need-all-at-requires-4
-all-at-requires-4 c κs = search needs
-
-demand-requires-4 : tie.Need-demand-requires-4
-demand-requires-4 c κs = search needs
+texts-requires : tie.Need-texts-requires
+texts-requires c κs = search needs
 
 returns : tie.Need-returns
 returns c = λ f ks.
-    let p = c .before .before .before .before in
-    let q = p .before .before .before .before in
-    let a = q .before .before .args in
-    let own : List Row = at 6 16 25 textual ∷ at 7 26 50 textual ∷ at 8 51 75 textual ∷ at 9 76 80 zeros ∷ [] in
-    simp (
-      c .demand4 .ensures,
-      c .before .all-at4 .ensures,
-      c .before .before .demand3 .ensures,
-      c .before .before .before .all-at3 .ensures,
-      p .demand2 .ensures,
-      p .before .all-at2 .ensures,
-      p .before .before .demand .ensures,
-      p .before .before .before .all-at .ensures,
-      q .repeating .ensures f ks,
-    )
-    (sym (rows-behind f ks (a .r .now) (repeats (a .a) (a .r .now)) own))
+    let p = c .before .before .before in
+    let a = p .before .before .before .args in
+    let e = c .before .head .given .1 in
+    sym e ∙ ends-here f ks (a .r .now) (repeats (a .a) (a .r .now)) texts31 (p .repeating .ensures (a .a) refl refl refl f ks) e
+
+returns-2 : tie.Need-returns-2
+returns-2 c = λ f ks.
+    let p = c .before .before .before in
+    let a = p .before .before .before .args in
+    goes-on f ks (a .r .now) (repeats (a .a) (a .r .now)) texts31 (p .repeating .ensures (a .a) refl refl refl f ks) (c .before .enum-told .given .1) (c .texts .ensures f ks)
 
 pub check31-spec : {M : Type 1} → statement M
 check31-spec =
     tie.close
-    (tie.spec
-    repeating-requires
-    all-at-requires
-    demand-requires
-    all-at-requires-2
-    demand-requires-2
-    all-at-requires-3
-    demand-requires-3
-    all-at-requires-4
-    demand-requires-4
-    returns)
+    (tie.spec repeating-requires enum-known-head enum-told texts-requires returns returns-2)

@@ -1,6 +1,6 @@
 -- Record 40 is checked row by row behind what it repeats, by its own type code.
 -- Assumes nothing.
-use mathlib.Core.Path.{sym}
+use mathlib.Core.Path.{refl, sym}
 use mathlib.Core.List.{List, [], _∷_}
 use borrow.Author.Needs.{needs}
 use Rattle.layout.specs.Rules.{zeros}
@@ -52,7 +52,7 @@ returns : tie.Need-returns
 returns c = λ f ks.
     let p = c .before .before .before .before in
     let q = p .before .before .before .before in
-    let a = q .before .before .before .before .before .args in
+    let a = q .before .before .before .before .before .before .args in
     let r = a .r .now in
     let own : List Row =
     at 6 16 45 (name (typeCode r)) ∷ at 7 46 49 (postal (typeCode r)) ∷ at 8 50 52 (filler (typeCode r)) ∷ at 9 53 77 (name (typeCode r)) ∷ at 10 78 80 zeros ∷ [] in
@@ -67,7 +67,7 @@ returns c = λ f ks.
       p .before .before .before .postal-at .ensures,
       q .demand .ensures,
       q .before .name-at .ensures,
-      q .before .before .repeating .ensures f ks,
+      q .before .before .repeating .ensures (a .a) refl refl refl f ks,
       q .before .before .before .code-at .ensures,
     )
     (sym (rows-behind f ks r (repeats (a .a) r) own))

@@ -1,6 +1,6 @@
 -- Record 49 is checked in pieces: what it repeats, its place, its text; the places behind it are those of the middle piece.
 -- Assumes nothing.
-use mathlib.Core.Path.{sym, _∙_}
+use mathlib.Core.Path.{refl, sym, _∙_}
 use mathlib.Core.List.{List, [], _∷_}
 use borrow.Author.Needs.{needs}
 use Rattle.layout.specs.Rules.{fixed, textual, zeros}
@@ -36,8 +36,8 @@ all-at-requires c κs = search needs
 demand-requires-2 : tie.Need-demand-requires-2
 demand-requires-2 c κs = search needs
 
-all-at-requires-2 : tie.Need-all-at-requires-2
-all-at-requires-2 c κs = search needs
+zeros-from-requires : tie.Need-zeros-from-requires
+zeros-from-requires c κs = search needs
 
 demand-requires-3 : tie.Need-demand-requires-3
 demand-requires-3 c κs = search needs
@@ -47,7 +47,7 @@ returns c =
     let p = c .before .before .before .before in
     let q = p .before .before .before .before in
     let placed = q .before .placing in
-    let a = q .before .before .before .args in
+    let a = q .before .before .before .before .args in
     let r = a .r .now in
     let three : List Row = at 6 16 16 (fixed "3") ∷ [] in
     let last : List Row = at 9 21 60 textual ∷ at 10 61 80 zeros ∷ [] in
@@ -55,18 +55,18 @@ returns c =
       finding = λ f ks.
           simp (
             c .demand3 .ensures,
-            c .before .all-at2 .ensures,
+            c .before .zeros-from .ensures,
             c .before .before .demand2 .ensures,
             c .before .before .before .all-at .ensures,
             p .or-else .ensures,
             placed .ensures .finding f ks,
             p .before .demand .ensures,
             p .before .before .same-at .ensures,
-            q .repeating .ensures f ks,
+            q .repeating .ensures (a .a) refl refl refl f ks,
           )
           (sym (around f ks r (repeats (a .a) r) three (place49 (a .a) r) last));
       places = λ s.
-          let s2 = demanded-both (c .before .before .demand2 .result) (c .before .all-at2 .result) 7 10 (sym (c .demand3 .ensures) ∙ s) .0 in
+          let s2 = demanded-both (c .before .before .demand2 .result) (c .before .zeros-from .result) 7 10 (sym (c .demand3 .ensures) ∙ s) .0 in
           let s1 = demanded-both (p .or-else .result) (c .before .before .before .all-at .result) 8 9 (sym (c .before .before .demand2 .ensures) ∙ s2) .0 in
           placed .ensures .places (or-else-both (p .before .demand .result) (placed .result .finding) (sym (p .or-else .ensures) ∙ s1) .1);
     }
@@ -83,6 +83,6 @@ check49-spec =
     or-else-requires
     all-at-requires
     demand-requires-2
-    all-at-requires-2
+    zeros-from-requires
     demand-requires-3
     returns)

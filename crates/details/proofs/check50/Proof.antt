@@ -26,8 +26,8 @@ demand-requires c κs = search needs
 or-else-requires : tie.Need-or-else-requires
 or-else-requires c κs = search needs
 
-all-at-requires : tie.Need-all-at-requires
-all-at-requires c κs = search needs
+zeros-from-requires : tie.Need-zeros-from-requires
+zeros-from-requires c κs = search needs
 
 demand-requires-2 : tie.Need-demand-requires-2
 demand-requires-2 c κs = search needs
@@ -45,7 +45,7 @@ returns c =
       finding = λ f ks.
           simp (
             c .demand2 .ensures,
-            c .before .all-at .ensures,
+            c .before .zeros-from .ensures,
             p .or-else .ensures,
             specified .ensures .finding f ks,
             p .before .demand .ensures,
@@ -54,7 +54,7 @@ returns c =
           )
           (sym (around f ks r (head50 (a .a) r) reference (sum50 (a .a) r) last));
       amount = λ s.
-          let s1 = demanded-both (p .or-else .result) (c .before .all-at .result) 7 8 (sym (c .demand2 .ensures) ∙ s) .0 in
+          let s1 = demanded-both (p .or-else .result) (c .before .zeros-from .result) 7 8 (sym (c .demand2 .ensures) ∙ s) .0 in
           specified .ensures .amount (or-else-both (p .before .demand .result) (specified .result .finding) (sym (p .or-else .ensures) ∙ s1) .1);
     }
 
@@ -67,6 +67,6 @@ check50-spec =
     kid-at-requires
     demand-requires
     or-else-requires
-    all-at-requires
+    zeros-from-requires
     demand-requires-2
     returns)

@@ -42,10 +42,10 @@ returns : tie.Need-returns
 returns c = λ f ks.
     let p = c .before .before in
     let q = p .before .before .before .before .before in
-    let a = q .before .before .args in
+    let a = q .before .before .before .args in
     let r = a .r .now in
     let type : List Row = at 3 5 6 (listed ("16" ∷ "17" ∷ [])) ∷ [] in
-    simp (c .or-else .ensures, c .before .same-number .ensures f ks, p .demand .ensures, p .before .same-at2 .ensures, p .before .before .before .same-at .ensures, q .belonging .ensures f ks)
+    simp (c .or-else .ensures, c .before .same-number .ensures (a .a) refl f ks, p .demand .ensures, p .before .same-at2 .ensures, p .before .before .before .same-at .ensures, q .belonging .ensures (a .a) refl f ks)
     (sym
     (pieces f ks r (belongs (a .a) r ++ type) (sameNumber (a .a) r)
     ∙ ap₂ orElse (rows-behind f ks r (belongs (a .a) r) type ∙ ap (λ (b : Bool). demanded (firstFault f ks r (belongs (a .a) r)) b 7 3) (two-listed (part 5 6 r))) refl))

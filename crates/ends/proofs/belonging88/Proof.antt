@@ -1,6 +1,6 @@
 -- Fields 1 to 3 of record 88, behind the group before it.
 -- Assumes nothing.
-use mathlib.Core.Path.{sym}
+use mathlib.Core.Path.{sym, refl}
 use mathlib.Core.List.{List, [], _∷_}
 use Rattle.layout.specs.Rules.{fixed}
 use Rattle.layout.specs.Rows.{Row, at}
@@ -46,7 +46,7 @@ returns c = λ f ks.
     let a = q .before .before .before .before .args in
     let r = a .r .now in
     let group : List Row = groupGives (a .a) ∷ [] in
-    simp (c .demand2 .ensures, c .before .same-at .ensures, p .or-else .ensures, p .before .belonging .ensures f ks, q .demand .ensures, q .before .gives .ensures)
+    simp (c .demand2 .ensures, c .before .same-at .ensures, p .or-else .ensures, p .before .belonging .ensures (a .a) refl f ks, q .demand .ensures, q .before .gives .ensures)
     (sym (then-rows f ks r (groupGives (a .a) ∷ belongs (a .a) r) (at 3 5 6 (fixed "00") ∷ []) (then-piece f ks r group (belongs (a .a) r) (demands f ks r group))))
 
 pub belonging88-spec : {M : Type 1} → statement M

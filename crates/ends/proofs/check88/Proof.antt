@@ -18,7 +18,7 @@ use Rattle.dates.proofs.ddmmyy_of.Reads as ddmmyy-of-reads
 use Rattle.ends.proofs.belonging88.Reads as belonging88-reads
 use Rattle.ends.proofs.figure_at.Reads as figure-at-reads
 use Rattle.ends.proofs.figures_in.Reads as figures-in-reads
-use Rattle.fields.proofs.places.all_at.Reads as all-at-reads
+use Rattle.fields.proofs.places.zeros_from.Reads as zeros-from-reads
 use Rattle.layout.proofs.Finding.demand.Reads as demand-reads
 use Rattle.layout.proofs.Finding.or_else.Reads as or-else-reads
 
@@ -40,8 +40,8 @@ figure-at-requires c κs = search needs
 or-else-requires-2 : tie.Need-or-else-requires-2
 or-else-requires-2 c κs = search needs
 
-all-at-requires : tie.Need-all-at-requires
-all-at-requires c κs = search needs
+zeros-from-requires : tie.Need-zeros-from-requires
+zeros-from-requires c κs = search needs
 
 demand-requires : tie.Need-demand-requires
 demand-requires c κs = search needs
@@ -57,7 +57,7 @@ returns c = λ f ks.
     let last : List Row = own 9 48 53 r (ddmmyy (a .a .totals .last)) in
     simp (
       c .demand .ensures,
-      c .before .all-at .ensures,
+      c .before .zeros-from .ensures,
       p .or-else2 .ensures,
       p .before .figure-at .ensures f ks,
       p .before .before .ddmmyy-of .ensures,
@@ -77,6 +77,6 @@ check88-spec =
     ddmmyy-of-requires
     figure-at-requires
     or-else-requires-2
-    all-at-requires
+    zeros-from-requires
     demand-requires
     returns)

@@ -16,7 +16,7 @@ use Rattle.ends.proofs.check89.Reads as reads
 use Rattle.ends.proofs.check89.Lts as lts
 use Rattle.ends.proofs.figures_in.Reads as figures-in-reads
 use Rattle.common.proofs.outside.Reads as outside-reads
-use Rattle.fields.proofs.places.all_at.Reads as all-at-reads
+use Rattle.fields.proofs.places.zeros_from.Reads as zeros-from-reads
 use Rattle.layout.proofs.Finding.demand.Reads as demand-reads
 use Rattle.layout.proofs.Finding.or_else.Reads as or-else-reads
 
@@ -29,8 +29,8 @@ figures-in-requires c κs = search needs
 or-else-requires : tie.Need-or-else-requires
 or-else-requires c κs = search needs
 
-all-at-requires : tie.Need-all-at-requires
-all-at-requires c κs = search needs
+zeros-from-requires : tie.Need-zeros-from-requires
+zeros-from-requires c κs = search needs
 
 demand-requires : tie.Need-demand-requires
 demand-requires c κs = search needs
@@ -41,7 +41,7 @@ returns c = λ ks.
     let a = p .before .before .before .before .args in
     let r = a .r .now in
     let f = a .file in
-    simp (c .demand .ensures, c .before .all-at .ensures, p .or-else .ensures, p .before .figures-in .ensures f ks, p .before .before .outside .ensures f ks)
+    simp (c .demand .ensures, c .before .zeros-from .ensures, p .or-else .ensures, p .before .figures-in .ensures f ks, p .before .before .outside .ensures f ks)
     (sym (file-as-own f ks r ∙ then-rows f ks r (outside ++ figuresIn r f) (at 9 48 80 zeros ∷ []) (pieces f ks r outside (figuresIn r f))))
 
 pub check89-spec : {M : Type 1} → statement M
@@ -51,6 +51,6 @@ check89-spec =
     outside-requires
     figures-in-requires
     or-else-requires
-    all-at-requires
+    zeros-from-requires
     demand-requires
     returns)

@@ -2,14 +2,17 @@ use Prim.Native.Nat.{ℕ}
 use mathlib.Core.Path.{ap, _∙_}
 use lib.Dec.{eqb}
 use Rattle.rules.specs.Order.{mayEnd}
-use Rattle.order.proofs.Follow.{end-is}
+use Rattle.rules.specs.declared.Kind.the-variants.{R88}
+use Rattle.rules.specs.declared.Mode.the-variants.{File}
+use Rattle.order.proofs.Follow.{choice-is, end-is}
 use borrow.Author.Needs.{needs}
 use Rattle.order.proofs.may_end.Statement.{statement}
 use Rattle.order.proofs.may_end.Tie as tie
 use Rattle.order.proofs.may_end.Reads as reads
 use Rattle.order.proofs.may_end.Lts as lts
-use Rattle.order.proofs.may_follow.Reads as may-follow-reads
+use Rattle.order.proofs.is_remittance.Reads as is-remittance-reads
 use Rattle.order.proofs.number_of.Reads as number-of-reads
+use Rattle.order.proofs.whole_behind.Reads as whole-behind-reads
 
 enum-told : tie.Need-enum-told
 enum-told c = search needs
@@ -20,8 +23,14 @@ number-of-requires c κs = search needs
 enum-told-2 : tie.Need-enum-told-2
 enum-told-2 c = search needs
 
-may-follow-requires : tie.Need-may-follow-requires
-may-follow-requires c κs = search needs
+number-of-requires-2 : tie.Need-number-of-requires-2
+number-of-requires-2 c κs = search needs
+
+is-remittance-requires : tie.Need-is-remittance-requires
+is-remittance-requires c κs = search needs
+
+whole-behind-requires : tie.Need-whole-behind-requires
+whole-behind-requires c κs = search needs
 
 returns : tie.Need-returns
 unfolding mayEnd
@@ -29,9 +38,19 @@ returns c = rw (c .before .enum-told .given .1) (ap (λ (n : ℕ). eqb n 89) (c 
 
 returns-2 : tie.Need-returns-2
 unfolding mayEnd
-returns-2 c = rw (c .before .enum-told2 .given .1) (c .may-follow .ensures)
+returns-2 c =
+    let p = c .before .before in
+    simp (c .whole-behind .ensures, c .before .is-remittance .ensures, p .number-of2 .ensures, p .before .enum-told2 .given .1) (choice-is File (p .before .before .before .args .a) R88)
 
 pub may-end-spec : {M : Type 1} → statement M
 may-end-spec =
     tie.close
-    (tie.spec enum-told number-of-requires enum-told-2 may-follow-requires returns returns-2)
+    (tie.spec
+    enum-told
+    number-of-requires
+    enum-told-2
+    number-of-requires-2
+    is-remittance-requires
+    whole-behind-requires
+    returns
+    returns-2)

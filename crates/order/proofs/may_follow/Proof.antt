@@ -14,14 +14,14 @@ use Rattle.order.proofs.is_remittance.Reads as is-remittance-reads
 use Rattle.order.proofs.number_of.Reads as number-of-reads
 use Rattle.order.proofs.whole_behind.Reads as whole-behind-reads
 
--- past the four answers, the code's choice for a record type is the rule
-known : (p : tie.After-whole-behind) (k : Kind)
-    → let a = p .before .before .before .before .args in
-    choice (a .mode) k (p .before .before .before .number-of .result) (p .before .before .is-remittance .result) (eqb (a .a .code) 3) (eqb (a .a .code) 4) (eqb (a .a .code) 16)
+-- past the three answers, the code's choice for a record type is the rule
+known : (p : tie.After-is-draft) (k : Kind)
+    → let a = p .before .before .before .args in
+    choice (a .mode) k (p .before .before .number-of .result) (p .before .is-remittance .result) (eqb (a .a .code) 3) (eqb (a .a .code) 4) (eqb (a .a .code) 16)
     ≡ mayFollow (a .mode) (a .a) k
 known p k =
-    let a = p .before .before .before .before .args in
-    simp (p .before .before .before .number-of .ensures, p .before .before .is-remittance .ensures) (choice-is (a .mode) (a .a) k)
+    let a = p .before .before .before .args in
+    simp (p .before .before .number-of .ensures, p .before .is-remittance .ensures) (choice-is (a .mode) (a .a) k)
 
 number-of-requires : tie.Need-number-of-requires
 number-of-requires c κs = search needs
@@ -32,11 +32,11 @@ is-remittance-requires c κs = search needs
 is-draft-requires : tie.Need-is-draft-requires
 is-draft-requires c κs = search needs
 
-whole-behind-requires : tie.Need-whole-behind-requires
-whole-behind-requires c κs = search needs
-
 enum-told : tie.Need-enum-told
 enum-told c = search needs
+
+whole-behind-requires : tie.Need-whole-behind-requires
+whole-behind-requires c κs = search needs
 
 enum-told-2 : tie.Need-enum-told-2
 enum-told-2 c = search needs
@@ -53,8 +53,14 @@ enum-told-5 c = search needs
 enum-told-6 : tie.Need-enum-told-6
 enum-told-6 c = search needs
 
+whole-behind-requires-2 : tie.Need-whole-behind-requires-2
+whole-behind-requires-2 c κs = search needs
+
 enum-told-7 : tie.Need-enum-told-7
 enum-told-7 c = search needs
+
+whole-behind-requires-3 : tie.Need-whole-behind-requires-3
+whole-behind-requires-3 c κs = search needs
 
 enum-told-8 : tie.Need-enum-told-8
 enum-told-8 c = search needs
@@ -67,8 +73,8 @@ enum-told-10 c = search needs
 
 returns : tie.Need-returns
 returns c =
-    let p = c .before .before in
-    simp (p .whole-behind .ensures, c .enum-told .given .1) (known p R30)
+    let p = c .before .before .before in
+    simp (c .whole-behind .ensures, c .before .enum-told .given .1) (known p R30)
 
 returns-2 : tie.Need-returns-2
 returns-2 c =
@@ -92,13 +98,13 @@ returns-5 c =
 
 returns-6 : tie.Need-returns-6
 returns-6 c =
-    let p = c .before .before in
-    simp (p .whole-behind .ensures, p .before .is-draft .ensures, c .enum-told6 .given .1) (known p R88)
+    let p = c .before .before .before in
+    simp (c .whole-behind2 .ensures, p .is-draft .ensures, c .before .enum-told6 .given .1) (known p R88)
 
 returns-7 : tie.Need-returns-7
 returns-7 c =
-    let p = c .before .before in
-    simp (p .whole-behind .ensures, p .before .is-draft .ensures, c .enum-told7 .given .1) (known p R20)
+    let p = c .before .before .before in
+    simp (c .whole-behind3 .ensures, p .is-draft .ensures, c .before .enum-told7 .given .1) (known p R20)
 
 returns-8 : tie.Need-returns-8
 returns-8 c =
@@ -122,14 +128,16 @@ may-follow-spec =
     number-of-requires
     is-remittance-requires
     is-draft-requires
-    whole-behind-requires
     enum-told
+    whole-behind-requires
     enum-told-2
     enum-told-3
     enum-told-4
     enum-told-5
     enum-told-6
+    whole-behind-requires-2
     enum-told-7
+    whole-behind-requires-3
     enum-told-8
     enum-told-9
     enum-told-10

@@ -2,7 +2,8 @@
 -- Assumes nothing.
 use mathlib.Core.Path.{_≡_, refl, sym, ap, _∙_}
 use native.Mathlib.Omega.{arith}
-use Rattle.parting.proofs.Answers.{was-refused, below, above, parts, long-enough, divisible}
+use Rattle.laws.proofs.Slices.{long-enough}
+use Rattle.parting.proofs.Answers.{was-refused, below, above, parts, divisible}
 use borrow.Author.Needs.{needs}
 use Rattle.parting.proofs.part.Statement.{statement}
 use Rattle.parting.proofs.part.Tie as tie

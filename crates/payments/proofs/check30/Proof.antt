@@ -1,90 +1,122 @@
--- The record's six stages are its table in six pieces; where the whole is sound, so are the stages that bring something.
+-- Record 30, stage by stage: a fault in fields 1 to 5 ends it, and behind them stands the rest.
 -- Assumes nothing.
-use mathlib.Core.Path.{_≡_, sym}
+use mathlib.Core.Path.{_∙_}
 use mathlib.Core.List.{List, [], _∷_, _++_}
-use borrow.Author.Needs.{needs}
-use Rattle.layout.specs.declared.Finding.the-variants.{Sound}
-use Rattle.layout.specs.Rules.{zeros}
 use Rattle.layout.specs.Rows.{Row, at}
-use Rattle.rules.specs.Codes.{serviceCode, typeCode}
-use Rattle.rules.specs.Payments.{typeListed, kidFor}
-use Rattle.rules.specs.Layouts.{groupGives, belongs, number30, date30, party30, amount30}
-use Rattle.payments.proofs.Stages.{first-sound, second-sound, six-pieces}
+use Rattle.layout.proofs.Laws.{ends-here, goes-on}
+use Rattle.rules.specs.Codes.{serviceCode}
+use Rattle.rules.specs.Payments.{typeListed}
+use Rattle.rules.specs.Layouts.{groupGives, belongs, number30}
+use Rattle.payments.specs.Paid.{rest30}
+use Rattle.payments.proofs.Stages.{no-value}
+use borrow.Author.Needs.{needs}
 use Rattle.payments.proofs.check30.Statement.{statement}
 use Rattle.payments.proofs.check30.Tie as tie
-
-number-requires : tie.Need-number-requires
-number-requires c κs = search needs
-
-date-requires : tie.Need-date-requires
-date-requires c κs = search needs
-
-amount-requires : tie.Need-amount-requires
-amount-requires c κs = search needs
+use Rattle.payments.proofs.check30.Reads as reads
+use Rattle.payments.proofs.check30.Lts as lts
+use Rattle.payments.proofs.behind_number.Reads as behind-number-reads
+use Rattle.payments.proofs.head.Reads as head-reads
+use Rattle.payments.proofs.number.Reads as number-reads
+use Rattle.payments.proofs.wrong.Reads as wrong-reads
 
 head-requires : tie.Need-head-requires
 head-requires c κs = search needs
 
-or-else-requires : tie.Need-or-else-requires
-or-else-requires c κs = search needs
+enum-told : tie.Need-enum-told
+enum-told c = search needs
 
-or-else-requires-2 : tie.Need-or-else-requires-2
-or-else-requires-2 c κs = search needs
+enum-told-2 : tie.Need-enum-told-2
+enum-told-2 c = search needs
 
-party-requires : tie.Need-party-requires
-party-requires c κs = search needs
-
-or-else-requires-3 : tie.Need-or-else-requires-3
-or-else-requires-3 c κs = search needs
-
-or-else-requires-4 : tie.Need-or-else-requires-4
-or-else-requires-4 c κs = search needs
-
-tail-requires : tie.Need-tail-requires
-tail-requires c κs = search needs
-
-or-else-requires-5 : tie.Need-or-else-requires-5
-or-else-requires-5 c κs = search needs
+wrong-requires : tie.Need-wrong-requires
+wrong-requires c κs = search needs
 
 returns : tie.Need-returns
 returns c = λ ks.
-    let p4 = c .before .before in
-    let p3 = p4 .before in
-    let p2 = p3 .before .before in
-    let p1 = p2 .before in
-    let h = p1 .before in
-    let m = h .before .before in
-    let d = m .before .before in
-    let n = d .before .before in
-    let a = n .before .before .args in
+    let a = c .before .before .before .before .before .args in
     let r = a .r .now in
     let f = a .file in
     let heads : List Row = (groupGives (a .a) ∷ belongs (a .a) r) ++ (at 3 5 6 (typeListed (serviceCode r)) ∷ []) in
-    let tails : List Row = at 9 50 74 (kidFor (serviceCode r) (typeCode r)) ∷ at 10 75 80 zeros ∷ [] in
-    let sound4 : c .or-else5 .result ≡ Sound → p4 .or-else4 .result ≡ Sound = λ s. first-sound _ _ _ (c .or-else5 .ensures) s in
-    let sound2 : c .or-else5 .result ≡ Sound → p2 .or-else2 .result ≡ Sound = λ s. first-sound _ _ _ (p3 .or-else3 .ensures) (first-sound _ _ _ (p4 .or-else4 .ensures) (sound4 s)) in
+    let rest = rest30 (a .w) (a .a) r in
+    let numbers : List Row = number30 (a .a) r ++ rest in
+    let e = c .wrong .ensures in
+    let fault = c .before .enum-told2 .given .1 in
+    record {
+      finding = e ∙ ends-here f ks r heads numbers (c .before .before .before .head .ensures f ks) fault;
+      number = λ s. absurd (no-value e fault s);
+      date = λ s. absurd (no-value e fault s);
+      amount = λ s. absurd (no-value e fault s);
+    }
+
+number-requires : tie.Need-number-requires
+number-requires c κs = search needs
+
+enum-told-3 : tie.Need-enum-told-3
+enum-told-3 c = search needs
+
+enum-told-4 : tie.Need-enum-told-4
+enum-told-4 c = search needs
+
+wrong-requires-2 : tie.Need-wrong-requires-2
+wrong-requires-2 c κs = search needs
+
+returns-2 : tie.Need-returns-2
+returns-2 c = λ ks.
+    let a = c .before .before .before .before .before .before .before .before .args in
+    let r = a .r .now in
+    let f = a .file in
+    let heads : List Row = (groupGives (a .a) ∷ belongs (a .a) r) ++ (at 3 5 6 (typeListed (serviceCode r)) ∷ []) in
+    let rest = rest30 (a .w) (a .a) r in
+    let numbers : List Row = number30 (a .a) r ++ rest in
+    let h = c .before .before .before .before .before .before in
+    let e = c .wrong2 .ensures in
+    let fault = c .before .enum-told4 .given .1 in
     record {
       finding =
-          simp (c .or-else5 .ensures, c .before .tail .ensures f ks, p4 .or-else4 .ensures, p3 .or-else3 .ensures, p3 .before .party .ensures f ks, p2 .or-else2 .ensures, p1 .or-else .ensures, h .head .ensures f ks, m .amount .ensures .finding ks, d .date .ensures .finding f ks, n .number .ensures .finding f ks)
-          (sym (six-pieces f ks r heads (number30 (a .a) r) (date30 (a .w) (a .a) r) (party30 r) (amount30 (a .a) r) tails));
-      number = λ s. n .number .ensures .number (second-sound (h .head .result) _ _ (p1 .or-else .ensures) (first-sound _ _ _ (p2 .or-else2 .ensures) (sound2 s)));
-      date = λ s. d .date .ensures .date (second-sound (p1 .or-else .result) _ _ (p2 .or-else2 .ensures) (sound2 s));
-      amount = λ s. m .amount .ensures .amount (second-sound (p3 .or-else3 .result) _ _ (p4 .or-else4 .ensures) (sound4 s));
+          goes-on f ks r heads numbers (h .head .ensures f ks) (c .before .before .before .before .enum-told .given .1)
+          (e ∙ ends-here f ks r (number30 (a .a) r) rest (c .before .before .before .number .ensures .finding f ks) fault);
+      number = λ s. absurd (no-value e fault s);
+      date = λ s. absurd (no-value e fault s);
+      amount = λ s. absurd (no-value e fault s);
+    }
+
+behind-number-requires : tie.Need-behind-number-requires
+behind-number-requires c κs = search needs
+
+returns-3 : tie.Need-returns-3
+returns-3 c = λ ks.
+    let a = c .before .before .before .before .before .before .before .before .args in
+    let r = a .r .now in
+    let f = a .file in
+    let heads : List Row = (groupGives (a .a) ∷ belongs (a .a) r) ++ (at 3 5 6 (typeListed (serviceCode r)) ∷ []) in
+    let rest = rest30 (a .w) (a .a) r in
+    let numbers : List Row = number30 (a .a) r ++ rest in
+    let n = c .before .before .before in
+    let h = n .before .before .before in
+    let number-sound = c .before .enum-told3 .given .1 in
+    let behind = c .behind-number .ensures ks in
+    record {
+      finding =
+          goes-on f ks r heads numbers (h .head .ensures f ks) (n .before .enum-told .given .1)
+          (goes-on f ks r (number30 (a .a) r) rest (n .number .ensures .finding f ks) number-sound (behind .finding));
+      number = λ s. behind .number s ∙ n .number .ensures .number number-sound;
+      date = behind .date;
+      amount = behind .amount;
     }
 
 pub check30-spec : {M : Type 1} → statement M
 check30-spec =
     tie.close
     (tie.spec
-    number-requires
-    date-requires
-    amount-requires
     head-requires
-    or-else-requires
-    or-else-requires-2
-    party-requires
-    or-else-requires-3
-    or-else-requires-4
-    tail-requires
-    or-else-requires-5
-    returns)
+    enum-told
+    enum-told-2
+    wrong-requires
+    returns
+    number-requires
+    enum-told-3
+    enum-told-4
+    wrong-requires-2
+    returns-2
+    behind-number-requires
+    returns-3)

@@ -44,7 +44,7 @@ returns c = λ f ks.
     let r = a .r .now in
     let group : List Row = groupGives (a .a) ∷ [] in
     let type : List Row = at 3 5 6 (typeListed (serviceCode r)) ∷ [] in
-    simp (c .demand2 .ensures, c .before .listed .ensures, c .before .before .code-at2 .ensures, c .before .before .before .code-at .ensures, p .or-else .ensures, p .before .belonging .ensures f ks, p .before .before .demand .ensures, p .before .before .before .gives .ensures)
+    simp (c .demand2 .ensures, c .before .listed .ensures, c .before .before .code-at2 .ensures, c .before .before .before .code-at .ensures, p .or-else .ensures, p .before .belonging .ensures (a .a) refl f ks, p .before .before .demand .ensures, p .before .before .before .gives .ensures)
     (sym (rows-behind f ks r (group ++ belongs (a .a) r) type
     ∙ ap (λ (x : Finding). demanded x (isType (serviceCode r) (typeCode r)) 7 3) (pieces f ks r group (belongs (a .a) r) ∙ ap₂ orElse (demands f ks r group) refl)))
 

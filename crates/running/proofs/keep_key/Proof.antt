@@ -3,11 +3,11 @@ use mathlib.Core.Path.{_≡_, refl, ap, sym, _∙_}
 use mathlib.Core.List.{List, _++_, append-nil}
 use native.Mathlib.Omega.{arith}
 use lib.ListN.{length, take}
-use Rattle.rules.specs.Codes.{recordCode, kindOf}
+use Rattle.rules.specs.Codes.{numberOfKind, kindOf}
 use Rattle.rules.specs.Growth.{gainFor, keysFor}
 use Rattle.rules.specs.declared.Kind.{Kind}
 use Rattle.rules.specs.declared.Kind.the-variants.{R20}
-use Rattle.rules.proofs.Codes.{twenty, no-key}
+use Rattle.running.proofs.Keys.{is-twenty, no-key}
 use Rattle.running.specs.Kept.{Kept}
 use Rattle.running.proofs.Loop.{put-key}
 use borrow.Author.Needs.{needs}
@@ -15,15 +15,17 @@ use Rattle.running.proofs.keep_key.Statement.{statement}
 use Rattle.running.proofs.keep_key.Tie as tie
 use Rattle.running.proofs.keep_key.Reads as reads
 use Rattle.running.proofs.keep_key.Lts as lts
-use Rattle.fields.proofs.places.code_at.Reads as code-at-reads
+use Rattle.order.proofs.number_of.Reads as number-of-reads
 use Rattle.starts.proofs.key_of.Reads as key-of-reads
 
 -- in the branch the record is a 20
 is20 : (c : tie.After-key-of) → kindOf (c .before .before .before .before .before .args .r .now) ≡ R20
-is20 c = twenty _ (sym (c .before .before .code-at .ensures) ∙ c .before .if1 .taken)
+is20 c =
+    let p = c .before .before .before .before .before in
+    sym (p .pre .2) ∙ is-twenty (p .args .kind) (sym (c .before .before .number-of .ensures) ∙ c .before .if1 .taken)
 
-code-at-requires : tie.Need-code-at-requires
-code-at-requires c κs = search needs
+number-of-requires : tie.Need-number-of-requires
+number-of-requires c κs = search needs
 
 key-of-requires : tie.Need-key-of-requires
 key-of-requires c κs = search needs
@@ -53,15 +55,20 @@ returns c =
 
 returns-2 : tie.Need-returns-2
 returns-2 c =
-    let a = c .before .before .before .before .args in
-    let n = no-key (recordCode (a .r .now)) (a .r .now) (λ e. c .if1 .left (c .before .code-at .ensures ∙ e)) in
-    record { count = omega (arith, n .1); same = sym (ap (λ (l : List ℕ). take (a .used) (a .keys .now) ++ l) (n .0) ∙ append-nil _) }
+    let p = c .before .before .before .before in
+    let a = p .args in
+    let n = no-key (a .kind) (a .r .now) (λ e. c .if1 .left (c .before .number-of .ensures ∙ e)) in
+    let same = ap (λ (k : Kind). take (a .used) (a .keys .now) ++ keysFor k (a .r .now)) (sym (p .pre .2)) in
+    record {
+      count = let z = ap (λ (k : Kind). gainFor k (a .r .now) .assignments .0) (sym (p .pre .2)) ∙ n .1 in omega (arith, z);
+      same = sym (same ∙ ap (λ (l : List ℕ). take (a .used) (a .keys .now) ++ l) (n .0) ∙ append-nil _);
+    }
 
 pub keep-key-spec : {M : Type 1} → statement M
 keep-key-spec =
     tie.close
     (tie.spec
-    code-at-requires
+    number-of-requires
     key-of-requires
     mul-keys
     slice-write-keys

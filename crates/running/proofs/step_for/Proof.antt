@@ -98,7 +98,7 @@ returns-9 : tie.Need-returns-9
 returns-9 c = rw (c .before .enum-told9 .given .1) (c .step89 .ensures _ _)
 
 returns-10 : tie.Need-returns-10
-returns-10 c = absurd (c .before .before .before .pre .3 (c .enum-told10 .given .1))
+returns-10 c = absurd (c .before .before .before .before .pre .3 (c .enum-told10 .given .1))
 
 pub step-for-spec : {M : Type 1} → statement M
 step-for-spec =

@@ -21,7 +21,7 @@ shared-slice-read-if1 c = search needs
 
 returns : tie.Need-returns
 returns c =
-    let s = c .before .before .before in
+    let s = c .before .before .before .before in
     let a = s .args in
     sym (no-line-feed (a .mode) (a .w) (a .st) _ (a .r .now) (feed-no (a .r .now) (s .pre .0) (c .if1 .taken)))
 
@@ -34,14 +34,14 @@ may-follow-requires c κs = search needs
 returns-2 : tie.Need-returns-2
 returns-2 c =
     let q = c .before .before .before .before in
-    let s = q .before .before .before in
+    let s = q .before .before .before .before in
     let a = s .args in
     sym (not-here (a .mode) (a .w) (a .st) _ (a .r .now) (feed-yes (a .r .now) (s .pre .0) (q .if1 .left))
     (ap (mayFollow (a .mode) (a .st .assignment)) (sym (c .before .before .before .kind-of .ensures)) ∙ sym (c .before .may-follow .ensures) ∙ not-true _ (c .if2 .taken)))
 
 step-for-requires : tie.Need-step-for-requires
 step-for-requires c κs =
-    let s = c .before .before .before .before .before .before .before in
+    let s = c .before .before .before .before .before .before .before .before in
     let a = s .args in
     let follows = sym (c .before .may-follow .ensures) ∙ not-false _ (c .if2 .left) in
     (s .pre .0, s .pre .1, s .pre .2, λ e. false≢true (sym (never-other (a .mode) (a .st .assignment)) ∙ ap (mayFollow (a .mode) (a .st .assignment)) (sym e) ∙ follows))
@@ -49,7 +49,7 @@ step-for-requires c κs =
 returns-3 : tie.Need-returns-3
 returns-3 c =
     let q = c .before .before .before .before .before in
-    let s = q .before .before .before in
+    let s = q .before .before .before .before in
     let a = s .args in
     let kind = c .before .before .before .before .kind-of .ensures in
     c .step-for .ensures ∙ ap (λ (k : Kind). kindStep k (a .w) (a .st) (take (a .used) (a .keys .now)) (a .r .now)) kind

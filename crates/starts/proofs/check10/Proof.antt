@@ -12,7 +12,7 @@ use Rattle.starts.proofs.check10.Statement.{statement}
 use Rattle.starts.proofs.check10.Tie as tie
 use Rattle.starts.proofs.check10.Reads as reads
 use Rattle.starts.proofs.check10.Lts as lts
-use Rattle.fields.proofs.places.all_at.Reads as all-at-reads
+use Rattle.fields.proofs.places.zeros_from.Reads as zeros-from-reads
 use Rattle.fields.proofs.places.same_at.Reads as same-at-reads
 use Rattle.layout.proofs.Finding.demand.Reads as demand-reads
 use Rattle.layout.proofs.Finding.or_else.Reads as or-else-reads
@@ -43,8 +43,8 @@ same-at-requires c κs = search needs
 demand-requires : tie.Need-demand-requires
 demand-requires c κs = search needs
 
-all-at-requires : tie.Need-all-at-requires
-all-at-requires c κs = search needs
+zeros-from-requires : tie.Need-zeros-from-requires
+zeros-from-requires c κs = search needs
 
 demand-requires-2 : tie.Need-demand-requires-2
 demand-requires-2 c κs = search needs
@@ -60,7 +60,7 @@ returns c = λ f ks.
     let rest : List Row = at 7 24 31 (fixed "00008080") ∷ at 8 32 80 zeros ∷ [] in
     simp (
       c .demand2 .ensures,
-      c .before .all-at .ensures,
+      c .before .zeros-from .ensures,
       p .demand .ensures,
       p .before .same-at .ensures,
       q .or-else2 .ensures,
@@ -83,6 +83,6 @@ check10-spec =
     slice-aggregate-same-at
     same-at-requires
     demand-requires
-    all-at-requires
+    zeros-from-requires
     demand-requires-2
     returns)

@@ -13,7 +13,7 @@ use Rattle.starts.proofs.check20.Statement.{statement}
 use Rattle.starts.proofs.check20.Tie as tie
 use Rattle.starts.proofs.check20.Reads as reads
 use Rattle.starts.proofs.check20.Lts as lts
-use Rattle.fields.proofs.places.all_at.Reads as all-at-reads
+use Rattle.fields.proofs.places.zeros_from.Reads as zeros-from-reads
 use Rattle.layout.proofs.Finding.demand.Reads as demand-reads
 use Rattle.layout.proofs.Finding.or_else.Reads as or-else-reads
 use Rattle.starts.proofs.account.Reads as account-reads
@@ -42,8 +42,8 @@ account-requires c κs = search needs
 or-else-requires-3 : tie.Need-or-else-requires-3
 or-else-requires-3 c κs = search needs
 
-all-at-requires : tie.Need-all-at-requires
-all-at-requires c κs = search needs
+zeros-from-requires : tie.Need-zeros-from-requires
+zeros-from-requires c κs = search needs
 
 demand-requires : tie.Need-demand-requires
 demand-requires c κs = search needs
@@ -61,7 +61,7 @@ returns c =
     let key : List Row = newKey r in
     simp (
       c .demand .ensures,
-      c .before .all-at .ensures,
+      c .before .zeros-from .ensures,
       p .or-else3 .ensures,
       p .before .account .ensures f ks,
       q .or-else2 .ensures,
@@ -84,6 +84,6 @@ check20-spec =
     or-else-requires-2
     account-requires
     or-else-requires-3
-    all-at-requires
+    zeros-from-requires
     demand-requires
     returns)

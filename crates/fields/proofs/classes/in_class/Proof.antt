@@ -1,7 +1,5 @@
-use Prim.Native.Nat.{_≤_}
-use mathlib.Core.Bool.{and-true}
 use native.Mathlib.Omega.{arith}
-use borrow.Author.Tests.{le-leb}
+use Rattle.fields.proofs.Computed.{text-by-bits}
 use borrow.Author.Needs.{needs}
 use Rattle.fields.proofs.classes.in_class.Statement.{statement}
 use Rattle.fields.proofs.classes.in_class.Tie as tie
@@ -33,10 +31,7 @@ returns-3 : tie.Need-returns-3
 returns-3 c = rw (c .enum-told3 .given .1)
 
 returns-4 : tie.Need-returns-4
-returns-4 c =
-    let b = c .before .before .args .b in
-    let h : b ≤ 255 = omega arith in
-    simp (c .enum-told4 .given .1, le-leb b 255 h, and-true)
+returns-4 c = rw (c .enum-told4 .given .1) (text-by-bits (c .before .before .args .b) (omega arith))
 
 returns-5 : tie.Need-returns-5
 returns-5 c = rw (c .enum-told5 .given .1)
