@@ -31,7 +31,6 @@ loop-less c = search needs
 loop-again : tie.Need-loop-again Inv-loop μ-loop
 loop-again c = search needs
 
-
 returns : tie.Need-returns Inv-loop μ-loop
 returns c = search needs
 
