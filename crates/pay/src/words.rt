@@ -12,8 +12,8 @@ pub fn say_number(n: u64) {
     io::print_decimal(STDOUT_FILENO, n);
 }
 
-// Numbers 1 to 11: the input as a whole, and single fields.
-fn say_of_fields(number: u8) {
+// What a refusal's number means; here 1 to 11: the input as a whole, and single fields.
+pub fn say_meaning(number: u8) {
     match number {
         1 => say(b"the process day is no date"),
         2 => say(b"the length is 0 or no multiple of 81"),
@@ -47,12 +47,7 @@ fn say_of_files(number: u8) {
     }
 }
 
-// What a refusal's number means.
-pub fn say_meaning(number: u8) {
-    say_of_fields(number);
-}
-
-// Fields that stand alike in every record.
+// What a field is called; 1 to 4 stand alike in every record.
 pub fn say_field(kind: Kind, field: u8) {
     match field {
         1 => say(b"start NY"),
@@ -73,7 +68,7 @@ fn say_own_field(kind: Kind, field: u8) {
         Kind::R49 => say_field_of_message(field),
         Kind::R50 => say_field_of_specification(field),
         Kind::R88 => say_field_of_end(field),
-        Kind::R89 => say_field_of_last(field),
+        Kind::R89 => say_figure(field),
         Kind::Other => say(b"unknown"),
     }
 }
@@ -164,10 +159,6 @@ fn say_field_of_end(field: u8) {
         9 => say(b"last date"),
         _ => say_figure(field),
     }
-}
-
-fn say_field_of_last(field: u8) {
-    say_figure(field);
 }
 
 // How one command is used.
