@@ -4,7 +4,3 @@ pub mod Every
 pub mod Values
 pub mod Width
 pub mod Weights
-pub mod Runs
-pub mod WordTests
-pub mod WordValues
-pub mod WordBytes

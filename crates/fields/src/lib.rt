@@ -1,10 +1,9 @@
-// A field's bytes: digits and the number that they write, classes of bytes, fixed text, accounts, KIDs and references.
+// The fields of a record by their positions, and numbers into fields. What a field's bytes may be is in the crates below;
+// their types and operations that other crates name are passed on here.
 
 pub mod accounts;
 pub mod classes;
 pub mod digits;
-pub mod kids;
 pub mod places;
 pub mod texts;
-mod words;
 pub mod writing;

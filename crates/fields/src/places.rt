@@ -3,21 +3,21 @@
 ghost use mathlib.Core.Path.{_≡_};
 ghost use Prim.Native.Nat.{_+_, _≤_};
 ghost use lib.ListN.{length};
-ghost use Rattle.fields.specs.Bytes.{every, isZero, same, part, Inside};
-ghost use Rattle.fields.specs.Classes.{inClass};
-ghost use Rattle.fields.specs.Numbers.{numberOf, codeOf};
-ghost use Rattle.fields.specs.Accounts.{accountOf};
-ghost use Rattle.fields.specs.Kids.{atRight, isKid, isReference};
-use super::accounts::Account;
-use super::classes::Class;
-use super::classes::in_class;
-use super::digits::Digits;
+ghost use Rattle.characters.specs.Bytes.{every, isZero, same, part, Inside};
+ghost use Rattle.characters.specs.Classes.{inClass};
+ghost use Rattle.numbers.specs.Numbers.{numberOf, codeOf};
+ghost use Rattle.account_numbers.specs.Accounts.{accountOf};
+ghost use Rattle.references.specs.Kids.{atRight, isKid, isReference};
+use account_numbers::Account;
+use characters::classes::Class;
+use characters::classes::in_class;
+use numbers::Digits;
 
 pub fn number_at(r: &[u8], from: usize, to: usize) -> Digits
     requires { ⌜ Inside from to (now r) × (to ≤ from + 16) ⌝ }
     ensures { λ d. ⌜ d ≡ numberOf (part from to (now (r .entry))) ⌝ }
 {
-    super::digits::number(&r[from - 1..to])
+    numbers::number(&r[from - 1..to])
 }
 
 // A code of two digits as a number, or 100.
@@ -37,7 +37,7 @@ pub fn all_at(class: Class, r: &[u8], from: usize, to: usize) -> bool
     requires { ⌜ Inside from to (now r) ⌝ }
     ensures { λ b. ⌜ b ≡ every (inClass class) (part from to (now (r .entry))) ⌝ }
 {
-    super::classes::all_in(class, &r[from - 1..to])
+    characters::classes::all_in(class, &r[from - 1..to])
 }
 
 // Zeros up to the end of a record: its last byte is the line feed.
@@ -45,21 +45,21 @@ pub fn zeros_from(r: &[u8], from: usize) -> bool
     requires { ⌜ (length (now r) ≡ 81) × (1 ≤ from) × (from ≤ 80) ⌝ }
     ensures { λ b. ⌜ b ≡ every isZero (part from 80 (now (r .entry))) ⌝ }
 {
-    super::classes::all_in(Class::Zero, &r[from - 1..r.len() - 1])
+    characters::classes::all_in(Class::Zero, &r[from - 1..r.len() - 1])
 }
 
 pub fn same_at(r: &[u8], from: usize, to: usize, t: &[u8]) -> bool
     requires { ⌜ Inside from to (now r) × (to + 1 ≡ from + length (now t)) ⌝ }
     ensures { λ b. ⌜ b ≡ same (part from to (now (r .entry))) (now (t .entry)) ⌝ }
 {
-    super::texts::same_bytes(&r[from - 1..to], t)
+    characters::texts::same_bytes(&r[from - 1..to], t)
 }
 
 pub fn account_at(r: &[u8], from: usize, to: usize) -> Account
     requires { ⌜ Inside from to (now r) × (to ≡ from + 10) ⌝ }
     ensures { λ a. ⌜ a ≡ accountOf (part from to (now (r .entry))) ⌝ }
 {
-    super::accounts::account_of(&r[from - 1..to])
+    account_numbers::account_of(&r[from - 1..to])
 }
 
 // A KID field has 25 places.
@@ -67,19 +67,19 @@ pub fn kid_at(r: &[u8], from: usize) -> bool
     requires { ⌜ Inside from (from + 24) (now r) ⌝ }
     ensures { λ b. ⌜ b ≡ isKid (part from (from + 24) (now (r .entry))) ⌝ }
 {
-    super::kids::kid(&r[from - 1..from + 24])
+    references::kid(&r[from - 1..from + 24])
 }
 
 pub fn kid_right_at(r: &[u8], from: usize, to: usize) -> bool
     requires { ⌜ Inside from to (now r) ⌝ }
     ensures { λ b. ⌜ b ≡ atRight (part from to (now (r .entry))) ⌝ }
 {
-    super::kids::kid_right(&r[from - 1..to])
+    references::kid_right(&r[from - 1..to])
 }
 
 pub fn reference_at(r: &[u8], from: usize, to: usize) -> bool
     requires { ⌜ Inside from to (now r) × (from + 1 ≤ to) ⌝ }
     ensures { λ b. ⌜ b ≡ isReference (part from to (now (r .entry))) ⌝ }
 {
-    super::kids::reference(&r[from - 1..to])
+    references::reference(&r[from - 1..to])
 }

@@ -4,17 +4,17 @@ use mathlib.Core.Bool.{true, _&&_}
 use native.Mathlib.Omega.{arith}
 use borrow.Author.Tests.{not-true, not-false}
 use lib.ListN.{getD}
-use Rattle.fields.specs.Bytes.{isDigit}
-use Rattle.fields.specs.Numbers.{codeOf}
-use Rattle.fields.proofs.Tests.{and-left, and-right}
-use Rattle.fields.proofs.Every.{digit-low, digit-high}
-use Rattle.fields.proofs.Values.{two-places, code-yes, code-no}
+use Rattle.characters.specs.Bytes.{isDigit}
+use Rattle.numbers.specs.Numbers.{codeOf}
+use Rattle.characters.proofs.Tests.{and-left, and-right}
+use Rattle.characters.proofs.Every.{digit-low, digit-high}
+use Rattle.numbers.proofs.Values.{two-places, code-yes, code-no}
 use borrow.Author.Needs.{needs}
 use Rattle.fields.proofs.places.code_at.Statement.{statement}
 use Rattle.fields.proofs.places.code_at.Tie as tie
 use Rattle.fields.proofs.places.code_at.Reads as reads
 use Rattle.fields.proofs.places.code_at.Lts as lts
-use Rattle.fields.proofs.classes.in_class.Reads as in-class-reads
+use Rattle.characters.proofs.classes.in_class.Reads as in-class-reads
 
 -- both bytes as they stand in the record
 abbrev tens : tie.Else1 → ℕ

@@ -3,13 +3,13 @@
 use Prim.Native.Nat.{ℕ, _-_}
 use mathlib.Core.Path.{ap, _∙_}
 use lib.ListN.{take, drop}
-use Rattle.fields.specs.Bytes.{every, isZero}
+use Rattle.characters.specs.Bytes.{every, isZero}
 use borrow.Author.Needs.{needs}
 use Rattle.fields.proofs.places.zeros_from.Statement.{statement}
 use Rattle.fields.proofs.places.zeros_from.Tie as tie
 use Rattle.fields.proofs.places.zeros_from.Reads as reads
 use Rattle.fields.proofs.places.zeros_from.Lts as lts
-use Rattle.fields.proofs.classes.all_in.Reads as all-in-reads
+use Rattle.characters.proofs.classes.all_in.Reads as all-in-reads
 
 sub-all-in : tie.Need-sub-all-in
 sub-all-in c = search needs

@@ -1,0 +1,44 @@
+-- An account's bytes by their weights, and what they have over the digits.
+-- Assumes nothing.
+use Prim.Native.Nat.{ℕ, _+_, _-_, _*_, _≤_}
+use mathlib.Core.Path.{_≡_, refl, ap, _∙_}
+use mathlib.Core.List.{List, [], _∷_}
+use mathlib.Core.Bool.{Bool, true, false}
+use native.Mathlib.Nat.{add-mul, not-suc-le-zero, le-of-suc-le-suc}
+use native.Mathlib.Omega.{arith}
+use lib.ListN.{length}
+use Rattle.choice.specs.Choice.{if_then_else_}
+use Rattle.characters.specs.Bytes.{every, isDigit}
+use Rattle.account_numbers.specs.Accounts.{weights, weighted, accountOf, judged, lastDigit, remainder}
+use Rattle.account_numbers.specs.OnTheWay.{weighed}
+use Rattle.account_numbers.specs.declared.Account.the-variants.{NotDigits}
+use Rattle.characters.proofs.Tests.{and-left, and-right}
+use Rattle.characters.proofs.Every.{digit-low}
+
+total : List ℕ → ℕ
+total [] = 0
+total (w ∷ ws) = w + total ws
+
+-- of digits, each byte is 48 over its digit
+over : (ws s : List ℕ) → length ws ≤ length s → every isDigit s ≡ true → weighed ws s ≡ weighted ws s + 48 * total ws
+unfolding every weighed weighted total
+over [] s l h = refl
+over (w ∷ ws) [] l h = absurd (not-suc-le-zero l)
+over (w ∷ ws) (b ∷ s) l h =
+    let d : b ≡ b - 48 + 48 = omega (arith, digit-low b (and-left (isDigit b) (every isDigit s) h)) in
+    let p : b * w ≡ (b - 48) * w + 48 * w = ap (λ (x : ℕ). x * w) d ∙ add-mul (b - 48) 48 w in
+    omega (arith, p, over ws s (le-of-suc-le-suc l) (and-right (isDigit b) (every isDigit s) h))
+
+pub digits-over : (s : List ℕ) → length s ≡ 11 → every isDigit s ≡ true → weighed weights s ≡ weighted weights s + 1968
+unfolding total
+digits-over s l h = over weights s (omega arith) h
+
+-- the answer for digits, and for anything else
+module _ (s : List ℕ) where
+  pub digits-judged : every isDigit s ≡ true → accountOf s ≡ judged (lastDigit s) (remainder s)
+  unfolding accountOf
+  digits-judged h = rw h
+
+  pub no-digits : every isDigit s ≡ false → accountOf s ≡ NotDigits
+  unfolding accountOf
+  no-digits h = rw h

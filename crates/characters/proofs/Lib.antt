@@ -1,0 +1,4 @@
+pub mod Tests
+pub mod Computed
+pub mod Every
+pub mod Listed

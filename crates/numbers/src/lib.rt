@@ -1,0 +1,110 @@
+// A field of digits as the number that it writes.
+
+ghost use mathlib.Core.Path.{_≡_};
+ghost use mathlib.Core.Bool.{true};
+ghost use Prim.Native.Nat.{_≤_};
+ghost use lib.ListN.{length};
+ghost use Rattle.characters.specs.Bytes.{every, isDigit};
+ghost use Rattle.numbers.specs.Numbers.{value, numberOf};
+ghost use Rattle.words.specs.Words.{bytesOf};
+use characters::classes::Class;
+use characters::classes::all_in;
+use characters::classes::in_class;
+use words::all_digits;
+use words::value_in;
+use words::wide;
+use words::word;
+use words::word_of_seven;
+use words::word_of_six;
+
+pub enum Digits {
+    Number(u64),
+    NotDigits,
+}
+
+// Six to nine bytes are read by words.
+pub fn number(s: &[u8]) -> Digits
+    requires { ⌜ length (now s) ≤ 17 ⌝ }
+    ensures { λ r. ⌜ r ≡ numberOf (now (s .entry)) ⌝ }
+{
+    if s.len() == 8 {
+        return eight(s);
+    }
+    if s.len() == 7 {
+        return seven(s);
+    }
+    if s.len() == 6 {
+        return six(s);
+    }
+    if s.len() == 9 {
+        return nine(s);
+    }
+    by_bytes(s)
+}
+
+fn eight(s: &[u8]) -> Digits
+    requires { ⌜ length (now s) ≡ 8 ⌝ }
+    ensures { λ r. ⌜ r ≡ numberOf (now (s .entry)) ⌝ }
+{
+    number_in(word(s))
+}
+
+fn seven(s: &[u8]) -> Digits
+    requires { ⌜ length (now s) ≡ 7 ⌝ }
+    ensures { λ r. ⌜ r ≡ numberOf (now (s .entry)) ⌝ }
+{
+    number_in(word_of_seven(s))
+}
+
+fn six(s: &[u8]) -> Digits
+    requires { ⌜ length (now s) ≡ 6 ⌝ }
+    ensures { λ r. ⌜ r ≡ numberOf (now (s .entry)) ⌝ }
+{
+    number_in(word_of_six(s))
+}
+
+// One digit, and a word.
+fn nine(s: &[u8]) -> Digits
+    requires { ⌜ length (now s) ≡ 9 ⌝ }
+    ensures { λ r. ⌜ r ≡ numberOf (now (s .entry)) ⌝ }
+{
+    let first = s[0];
+    let rest = word(&s[1..9]);
+    if !(in_class(Class::Digit, first) & all_digits(rest)) {
+        return Digits::NotDigits;
+    }
+    Digits::Number(wide(first - 48) * 100000000 + value_in(rest))
+}
+
+fn number_in(x: u64) -> Digits
+    ensures { λ r. ⌜ r ≡ numberOf (bytesOf 8 x) ⌝ }
+{
+    if !all_digits(x) {
+        return Digits::NotDigits;
+    }
+    Digits::Number(value_in(x))
+}
+
+fn by_bytes(s: &[u8]) -> Digits
+    requires { ⌜ length (now s) ≤ 17 ⌝ }
+    ensures { λ r. ⌜ r ≡ numberOf (now (s .entry)) ⌝ }
+{
+    if !all_in(Class::Digit, s) {
+        return Digits::NotDigits;
+    }
+    Digits::Number(value_of(s))
+}
+
+// The number that digits write.
+fn value_of(s: &[u8]) -> u64
+    requires { ⌜ (length (now s) ≤ 17) × (every isDigit (now s) ≡ true) ⌝ }
+    ensures { λ r. ⌜ r ≡ value (now (s .entry)) ⌝ }
+{
+    let mut n: u64 = 0;
+    let mut i = 0;
+    while i < s.len() {
+        n = n * 10 + wide(s[i] - 48);
+        i += 1;
+    }
+    n
+}

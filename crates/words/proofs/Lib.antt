@@ -1,0 +1,3 @@
+pub mod WordTests
+pub mod WordValues
+pub mod WordBytes
