@@ -13,7 +13,7 @@ use lib.Seq.{drop-drop, take-add}
 use Rattle.choice.specs.Choice.{if_then_else_}
 use Rattle.fields.specs.Bytes.{every, same, text, part, isDigit, isZero}
 use Rattle.fields.specs.Numbers.{valueFrom, value, numberOf, written, codeOf}
-use Rattle.fields.specs.declared.digits.Digits.the-variants.{Number}
+use Rattle.fields.specs.Numbers.{Number}
 use Rattle.fields.proofs.Tests.{and-left, and-right, and-both}
 use Rattle.fields.proofs.Every.{same-is, same-self}
 use Rattle.fields.proofs.Values.{number-yes, number-is, written-length}

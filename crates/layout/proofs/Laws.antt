@@ -10,8 +10,8 @@ use borrow.Author.Tests.{not-true, not-false}
 use Rattle.choice.specs.Choice.{if_then_else_}
 use Rattle.fields.specs.Bytes.{every, isDigit}
 use Rattle.fields.specs.Numbers.{numberOf, value}
-use Rattle.fields.specs.declared.digits.Digits.{Digits}
-use Rattle.fields.specs.declared.digits.Digits.the-variants.{Number, NotDigits}
+use Rattle.fields.specs.Numbers.{Digits}
+use Rattle.fields.specs.Numbers.{Number, NotDigits}
 use Rattle.fields.proofs.Values.{number-is, number-not}
 use Rattle.figures.specs.declared.totals.Totals.{Totals}
 use Rattle.layout.specs.Findings.{orElse, demanded}

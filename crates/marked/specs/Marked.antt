@@ -10,8 +10,8 @@ use Rattle.choice.specs.Choice.{if_then_else_}
 use Rattle.fields.specs.Bytes.{every, text}
 use Rattle.fields.specs.Numbers.{numberOf, valueFrom, written}
 use Rattle.fields.specs.Accounts.{accountOf, isRight, judged, rightDigit, weighted}
-use Rattle.fields.specs.declared.digits.Digits.{Digits}
-use Rattle.fields.specs.declared.digits.Digits.the-variants.{Number, NotDigits}
+use Rattle.fields.specs.Numbers.{Digits}
+use Rattle.fields.specs.Numbers.{Number, NotDigits}
 use Rattle.dates.specs.Dates.{daysIn, isDate, dayOf, readDay, earlier}
 use Rattle.dates.specs.Windows.{windowOf, tooLate, tooEarly}
 use Rattle.dates.specs.declared.Date.{Date}

@@ -8,8 +8,8 @@ use lib.Dec.{eqb}
 use Rattle.choice.specs.Choice.{if_then_else_}
 use Rattle.fields.specs.Bytes.{every, isDigit}
 use Rattle.fields.specs.Accounts.{remainder, rightDigit, lastDigit, judged, accountOf, isNumber}
-use Rattle.fields.specs.declared.accounts.Account.{Account}
-use Rattle.fields.specs.declared.accounts.Account.the-variants.{Right, WrongDigit, NoRightDigit, NotDigits}
+use Rattle.fields.specs.Accounts.{Account}
+use Rattle.fields.specs.Accounts.{Right, WrongDigit, NoRightDigit, NotDigits}
 use Rattle.layout.specs.declared.Finding.{Finding}
 use Rattle.layout.specs.declared.Finding.the-variants.{Sound, Fault}
 use Rattle.layout.proofs.Laws.{fault-not-sound}

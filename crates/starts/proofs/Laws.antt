@@ -13,12 +13,12 @@ use lib.Seq.{drop-cons, length-take-le, getD-take}
 use Rattle.choice.specs.Choice.{if_then_else_}
 use Rattle.fields.specs.Bytes.{every, same, text, isDigit, part}
 use Rattle.fields.specs.Numbers.{numberOf}
-use Rattle.fields.specs.declared.digits.Digits.the-variants.{Number}
+use Rattle.fields.specs.Numbers.{Number}
 use Rattle.fields.proofs.Values.{number-is}
 use Rattle.fields.proofs.Width.{below-at}
 use Rattle.fields.specs.Accounts.{judged, rightDigit, accountOf, isRight, lastDigit, remainder}
-use Rattle.fields.specs.declared.accounts.Account.{Account}
-use Rattle.fields.specs.declared.accounts.Account.the-variants.{Right, WrongDigit, NoRightDigit, NotDigits}
+use Rattle.fields.specs.Accounts.{Account}
+use Rattle.fields.specs.Accounts.{Right, WrongDigit, NoRightDigit, NotDigits}
 use Rattle.fields.proofs.Weights.{digits-judged, no-digits}
 use Rattle.figures.specs.declared.totals.Totals.{Totals}
 use Rattle.layout.specs.Findings.{orElse, demanded}

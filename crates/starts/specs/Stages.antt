@@ -2,8 +2,8 @@
 -- Assumes nothing.
 use Prim.Native.Nat.{ℕ}
 use mathlib.Core.List.{List, [], _∷_}
-use Rattle.fields.specs.declared.accounts.Account.{Account}
-use Rattle.fields.specs.declared.accounts.Account.the-variants.{Right, WrongDigit, NoRightDigit, NotDigits}
+use Rattle.fields.specs.Accounts.{Account}
+use Rattle.fields.specs.Accounts.{Right, WrongDigit, NoRightDigit, NotDigits}
 use Rattle.layout.specs.Rules.{digits, fixed, listed, rightAccount}
 use Rattle.layout.specs.Rows.{Row, at, file, room, fresh}
 use Rattle.layout.specs.declared.Finding.{Finding}

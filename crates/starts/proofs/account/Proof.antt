@@ -1,7 +1,7 @@
 -- The account is taken apart by what reading it answers: each answer is the first fault of its two rows.
 -- Assumes nothing.
 use mathlib.Core.Path.{sym, _∙_}
-use Rattle.fields.specs.declared.accounts.Account.the-variants.{Right, WrongDigit, NoRightDigit, NotDigits}
+use Rattle.fields.specs.Accounts.{Right, WrongDigit, NoRightDigit, NotDigits}
 use Rattle.starts.proofs.Laws.{account-rows}
 use borrow.Author.Needs.{needs}
 use Rattle.starts.proofs.account.Statement.{statement}
