@@ -46,7 +46,8 @@ use Rattle.rules.specs.declared.Verdict.{Verdict}
 use Rattle.rules.specs.declared.Verdict.the-variants.{Accepted, Refused}
 use Rattle.rules.proofs.Codes.{twenty}
 use Rattle.writing.proofs.Wrote.{end-length}
-use Rattle.joining.specs.Weighed.{Keyed, AllKeyed, Countable, Judged, limited, allowed, OnDay, secondOf, weighed}
+use Rattle.pairing.specs.Pairs.{Keyed, AllKeyed, Judged, limited, allowed}
+use Rattle.joining.specs.Weighed.{OnDay, secondOf, weighed}
 
 -- ---- an accepted file has its keys, and figures that can be added
 keyed : (m : Mode) (w : Window) (f : Totals) (ks : List ℕ) (a : Assignment) (r : List ℕ) → AllHold f ks r (rows m w a r) → Keyed r

@@ -1,3 +1,1 @@
-pub mod Shared
-pub mod Reasons
 pub mod Answers

@@ -7,7 +7,7 @@ use Rattle.joining.proofs.weigh_second.Tie as tie
 use Rattle.joining.proofs.weigh_second.Reads as reads
 use Rattle.joining.proofs.weigh_second.Lts as lts
 use Rattle.checking.proofs.judge.Reads as judge-reads
-use Rattle.joining.proofs.allowed.Reads as allowed-reads
+use Rattle.pairing.proofs.allowed.Reads as allowed-reads
 use Rattle.joining.proofs.of_operand.Reads as of-operand-reads
 
 slice-aggregate-judge : tie.Need-slice-aggregate-judge

@@ -1,11 +1,11 @@
 -- Assumes nothing.
 use mathlib.Core.Path.{sym, _∙_}
-use Rattle.joining.proofs.Shared.{brings-none, brings-key}
+use Rattle.pairing.proofs.Shared.{brings-none, brings-key}
 use borrow.Author.Needs.{needs}
-use Rattle.joining.proofs.brings.Statement.{statement}
-use Rattle.joining.proofs.brings.Tie as tie
-use Rattle.joining.proofs.brings.Reads as reads
-use Rattle.joining.proofs.brings.Lts as lts
+use Rattle.pairing.proofs.brings.Statement.{statement}
+use Rattle.pairing.proofs.brings.Tie as tie
+use Rattle.pairing.proofs.brings.Reads as reads
+use Rattle.pairing.proofs.brings.Lts as lts
 use Rattle.fields.proofs.places.code_at.Reads as code-at-reads
 use Rattle.starts.proofs.key_of.Reads as key-of-reads
 use Rattle.starts.proofs.seen.Reads as seen-reads

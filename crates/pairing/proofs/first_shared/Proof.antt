@@ -5,12 +5,12 @@ use mathlib.Core.Path.{_≡_, refl, sym, ap, _∙_}
 use native.Mathlib.Omega.{arith}
 use borrow.Author.Needs.{needs}
 use lib.ListN.{length, take}
-use Rattle.joining.proofs.Shared.{Searched, searched-none, searched-all, asks, found-here, searched-next}
-use Rattle.joining.proofs.first_shared.Statement.{statement}
-use Rattle.joining.proofs.first_shared.Tie as tie
-use Rattle.joining.proofs.first_shared.Reads as reads
-use Rattle.joining.proofs.first_shared.Lts as lts
-use Rattle.joining.proofs.brings.Reads as brings-reads
+use Rattle.pairing.proofs.Shared.{Searched, searched-none, searched-all, asks, found-here, searched-next}
+use Rattle.pairing.proofs.first_shared.Statement.{statement}
+use Rattle.pairing.proofs.first_shared.Tie as tie
+use Rattle.pairing.proofs.first_shared.Reads as reads
+use Rattle.pairing.proofs.first_shared.Lts as lts
+use Rattle.pairing.proofs.brings.Reads as brings-reads
 
 abbrev Inv-loop : tie.InvT-loop
 Inv-loop file ours used count k₀ k = Searched file (take used ours) k × (count ≡ length file / 81)

@@ -1,14 +1,14 @@
 -- Assumes nothing.
 use native.Mathlib.Omega.{arith}
-use Rattle.joining.proofs.Reasons.{many-records, many-assignments, large-sum, in-limits}
+use Rattle.pairing.proofs.Reasons.{many-records, many-assignments, large-sum, in-limits}
 use borrow.Author.Needs.{needs}
-use Rattle.joining.proofs.limited.Statement.{statement}
-use Rattle.joining.proofs.limited.Tie as tie
-use Rattle.joining.proofs.limited.Reads as reads
-use Rattle.joining.proofs.limited.Lts as lts
+use Rattle.pairing.proofs.limited.Statement.{statement}
+use Rattle.pairing.proofs.limited.Tie as tie
+use Rattle.pairing.proofs.limited.Reads as reads
+use Rattle.pairing.proofs.limited.Lts as lts
 use Rattle.checking.proofs.refuse.Reads as refuse-reads
 use Rattle.figures.proofs.amounts.Amount.holds.Reads as holds-reads
-use Rattle.joining.proofs.both.Reads as both-reads
+use Rattle.pairing.proofs.both.Reads as both-reads
 
 both-requires : tie.Need-both-requires
 both-requires c κs = search needs

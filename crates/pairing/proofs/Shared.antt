@@ -22,7 +22,7 @@ use Rattle.rules.proofs.Codes.{twenty, no-key}
 use Rattle.running.proofs.Records.{rest, rest-next, rest-end, rest-start, part-is, part-long}
 use Rattle.drafts.specs.Block.{recordAt}
 use Rattle.drafts.proofs.Walk.{handed}
-use Rattle.joining.specs.Weighed.{Keyed, AllKeyed}
+use Rattle.pairing.specs.Pairs.{Keyed, AllKeyed}
 
 -- ---- over the keys
 pub shared-next : (ks l : List ℕ) (n i x : ℕ) (found here : Bool) → i < n → n ≤ length l → x ≡ getD l i 0 → here ≡ member x ks

@@ -2,12 +2,12 @@
 use mathlib.Core.Path.{ap}
 use native.Mathlib.Omega.{arith}
 use Rattle.figures.specs.declared.totals.Totals.{Totals}
-use Rattle.joining.proofs.Reasons.{both-is}
+use Rattle.pairing.proofs.Reasons.{both-is}
 use borrow.Author.Needs.{needs}
-use Rattle.joining.proofs.both.Statement.{statement}
-use Rattle.joining.proofs.both.Tie as tie
-use Rattle.joining.proofs.both.Reads as reads
-use Rattle.joining.proofs.both.Lts as lts
+use Rattle.pairing.proofs.both.Statement.{statement}
+use Rattle.pairing.proofs.both.Tie as tie
+use Rattle.pairing.proofs.both.Reads as reads
+use Rattle.pairing.proofs.both.Lts as lts
 use Rattle.figures.proofs.totals.Totals.plus.Reads as plus-reads
 
 plus-requires : tie.Need-plus-requires

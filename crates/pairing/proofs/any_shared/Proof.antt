@@ -7,11 +7,11 @@ use native.Mathlib.Omega.{arith}
 use borrow.Author.Needs.{needs}
 use lib.ListN.{length, take, drop}
 use Rattle.operations.specs.Joining.{shares}
-use Rattle.joining.proofs.Shared.{shared-next, shared-end}
-use Rattle.joining.proofs.any_shared.Statement.{statement}
-use Rattle.joining.proofs.any_shared.Tie as tie
-use Rattle.joining.proofs.any_shared.Reads as reads
-use Rattle.joining.proofs.any_shared.Lts as lts
+use Rattle.pairing.proofs.Shared.{shared-next, shared-end}
+use Rattle.pairing.proofs.any_shared.Statement.{statement}
+use Rattle.pairing.proofs.any_shared.Tie as tie
+use Rattle.pairing.proofs.any_shared.Reads as reads
+use Rattle.pairing.proofs.any_shared.Lts as lts
 use Rattle.starts.proofs.seen.Reads as seen-reads
 
 abbrev Inv-loop : tie.InvT-loop

@@ -1,16 +1,16 @@
 -- 20, then 15 with the first record that brings a shared key, then the limits.
 -- Assumes nothing.
-use Rattle.joining.proofs.Reasons.{other-sender, shared-key, to-limits}
+use Rattle.pairing.proofs.Reasons.{other-sender, shared-key, to-limits}
 use borrow.Author.Needs.{needs}
-use Rattle.joining.proofs.allowed.Statement.{statement}
-use Rattle.joining.proofs.allowed.Tie as tie
-use Rattle.joining.proofs.allowed.Reads as reads
-use Rattle.joining.proofs.allowed.Lts as lts
-use Rattle.joining.proofs.any_shared.Reads as any-shared-reads
-use Rattle.joining.proofs.first_shared.Reads as first-shared-reads
-use Rattle.joining.proofs.limited.Reads as limited-reads
-use Rattle.joining.proofs.refuse_second.Reads as refuse-second-reads
-use Rattle.joining.proofs.same_sender.Reads as same-sender-reads
+use Rattle.pairing.proofs.allowed.Statement.{statement}
+use Rattle.pairing.proofs.allowed.Tie as tie
+use Rattle.pairing.proofs.allowed.Reads as reads
+use Rattle.pairing.proofs.allowed.Lts as lts
+use Rattle.pairing.proofs.any_shared.Reads as any-shared-reads
+use Rattle.pairing.proofs.first_shared.Reads as first-shared-reads
+use Rattle.pairing.proofs.limited.Reads as limited-reads
+use Rattle.pairing.proofs.refuse_second.Reads as refuse-second-reads
+use Rattle.pairing.proofs.same_sender.Reads as same-sender-reads
 
 same-sender-requires : tie.Need-same-sender-requires
 same-sender-requires c κs = search needs

@@ -18,7 +18,7 @@ use Rattle.rules.specs.Growth.{allKeys}
 use Rattle.rules.specs.Run.{refused, recordsOf, mostRecords}
 use Rattle.rules.specs.declared.Verdict.{Verdict}
 use Rattle.rules.specs.declared.Verdict.the-variants.{Accepted}
-use Rattle.joining.specs.Weighed.{limited, Judged, allowed}
+use Rattle.pairing.specs.Pairs.{limited, Judged, allowed}
 
 -- the figures added, and 2 taken off
 pub both-is : (s t u : Totals) → u ≡ s ⊕ t
