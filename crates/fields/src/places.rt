@@ -8,6 +8,7 @@ ghost use Rattle.fields.specs.Classes.{inClass};
 ghost use Rattle.fields.specs.Numbers.{numberOf, codeOf};
 ghost use Rattle.fields.specs.Accounts.{accountOf};
 ghost use Rattle.fields.specs.Kids.{atRight, isKid, isReference};
+ghost use Rattle.fields.specs.Words.{bytesOf};
 use super::accounts::Account;
 use super::classes::Class;
 use super::classes::in_class;
@@ -53,6 +54,14 @@ pub fn same_at(r: &[u8], from: usize, to: usize, t: &[u8]) -> bool
     ensures { λ b. ⌜ b ≡ same (part from to (now (r .entry))) (now (t .entry)) ⌝ }
 {
     super::texts::same_bytes(&r[from - 1..to], t)
+}
+
+// Four positions as one number, the first byte lowest.
+pub fn four_at(r: &[u8], from: usize) -> u64
+    requires { ⌜ Inside from (from + 3) (now r) ⌝ }
+    ensures { λ x. ⌜ bytesOf 4 x ≡ part from (from + 3) (now (r .entry)) ⌝ }
+{
+    super::words::half(&r[from - 1..from + 3])
 }
 
 pub fn account_at(r: &[u8], from: usize, to: usize) -> Account
