@@ -18,7 +18,7 @@ use figures::totals::Totals;
 use layout::Finding;
 use rules::Assignment;
 
-fn code_for(service: Service) -> u8
+pub fn code_for(service: Service) -> u8
     ensures { λ x. ⌜ x ≡ codeFor service ⌝ }
 {
     match service {
