@@ -1,14 +1,16 @@
 // Fields that several record types share: the head outside assignments, where a record belongs, and what it repeats of its record 30.
 
 ghost use mathlib.Core.Path.{_≡_};
+ghost use mathlib.Core.Bool.{true};
 ghost use mathlib.Core.List.{List};
 ghost use Prim.Native.Nat.{ℕ, _<_};
 ghost use lib.ListN.{length};
+ghost use Rattle.fields.specs.Words.{bytesOf};
 ghost use Rattle.figures.specs.Figures.{transactionNumber};
-ghost use Rattle.layout.specs.Rows.{firstFault};
+ghost use Rattle.layout.specs.Rows.{firstFault, AllHold};
 ghost use Rattle.rules.specs.Codes.{codeFor};
 ghost use Rattle.rules.specs.Layouts.{belongs, sameNumber, repeats};
-ghost use Rattle.common.specs.Heads.{outside};
+ghost use Rattle.common.specs.Heads.{outside, headOf, Belonging};
 use dates::Service;
 use fields::digits::Digits;
 use figures::counts::TransactionNumber;
@@ -16,7 +18,7 @@ use figures::totals::Totals;
 use layout::Finding;
 use rules::Assignment;
 
-fn code_for(service: Service) -> u8
+pub fn code_for(service: Service) -> u8
     ensures { λ x. ⌜ x ≡ codeFor service ⌝ }
 {
     match service {
@@ -54,6 +56,24 @@ pub fn belonging(r: &[u8], service: Service) -> Finding
         .demand(fields::places::code_at(r, 3) == code_for(service), 12, 2)
 }
 
+// NY and the code of the service, as one number.
+fn head_of(service: Service) -> u64
+    ensures { λ x. ⌜ bytesOf 4 x ≡ headOf service ⌝ }
+{
+    match service {
+        Service::Autogiro => 0x3130594E,
+        Service::Remittance => 0x3430594E,
+    }
+}
+
+// Fields 1 and 2 belong to an assignment of the service: told by one comparison.
+pub fn belongs_to(r: &[u8], service: Service) -> bool
+    requires { ⌜ length (now r) ≡ 81 ⌝ }
+    ensures { λ x. ⌜ (x ≡ true → Belonging service (now (r .entry))) ⌝ }
+{
+    fields::places::four_at(r, 1) == head_of(service)
+}
+
 // Field 5, the number of the transaction at hand.
 pub fn same_number(r: &[u8], number: TransactionNumber) -> Finding
     requires { ⌜ length (now r) ≡ 81 ⌝ }
@@ -63,6 +83,18 @@ pub fn same_number(r: &[u8], number: TransactionNumber) -> Finding
         return Finding::Fault(8, 5);
     };
     Finding::Sound.demand(numbered(n).equals(number), 12, 5)
+}
+
+// Fields 1 to 5 repeat the record 30 of this service, type and number.
+pub fn repeats(r: &[u8], service: Service, code: u8, number: TransactionNumber) -> bool
+    requires { ⌜ length (now r) ≡ 81 ⌝ }
+    ensures { λ x. ⌜ (x ≡ true → (a : Assignment) → a .service ≡ service → a .code ≡ code → a .number ≡ number → (f : Totals) (ks : List ℕ) → AllHold f ks (now (r .entry)) (repeats a (now (r .entry)))) ⌝ }
+{
+    let here = belongs_to(r, service) & (fields::places::code_at(r, 5) == code);
+    let Digits::Number(n) = fields::places::number_at(r, 9, 15) else {
+        return false;
+    };
+    here & numbered(n).equals(number)
 }
 
 // Fields 1 to 5 of 31, 40 and 49, which repeat their record 30.
@@ -75,4 +107,15 @@ pub fn repeating(r: &[u8], service: Service, code: u8, number: TransactionNumber
         Finding::Fault(_number, _field) => head,
         Finding::Sound => same_number(r, number),
     }
+}
+
+// The same for a record that is mostly sound: no fault is looked for where the fields do repeat it.
+pub fn repeated(r: &[u8], service: Service, code: u8, number: TransactionNumber) -> Finding
+    requires { ⌜ length (now r) ≡ 81 ⌝ }
+    ensures { λ x. ⌜ ((a : Assignment) → a .service ≡ service → a .code ≡ code → a .number ≡ number → (f : Totals) (ks : List ℕ) → x ≡ firstFault f ks (now (r .entry)) (repeats a (now (r .entry)))) ⌝ }
+{
+    if repeats(r, service, code, number) {
+        return Finding::Sound;
+    }
+    repeating(r, service, code, number)
 }

@@ -1,3 +1,4 @@
 pub mod Bounds
+pub mod Inner
 pub mod Places
 pub mod Soundness

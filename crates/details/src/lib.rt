@@ -6,7 +6,7 @@ ghost use Prim.Native.Nat.{ℕ, _+_, _<_, _≤_};
 ghost use lib.Dec.{eqb};
 ghost use lib.ListN.{length};
 ghost use Rattle.choice.specs.Choice.{if_then_else_};
-ghost use Rattle.fields.specs.Bytes.{part, Inside};
+ghost use Rattle.fields.specs.Bytes.{every, isText, part, Inside};
 ghost use Rattle.layout.specs.Rows.{firstFault};
 ghost use Rattle.rules.specs.Layouts.{record31, record40};
 ghost use Rattle.rules.specs.Messages.{taken, withPlace};
@@ -33,22 +33,27 @@ pub struct Specified {
     pub amount: Amount,
 }
 
-// Fields 6 to 9 of a record 31. Where all of them hold, no fault is looked for.
+// Text from one position to another.
+fn text_at(r: &[u8], from: usize, to: usize) -> bool
+    requires { ⌜ Inside from to (now r) ⌝ }
+    ensures { λ b. ⌜ b ≡ every isText (part from to (now (r .entry))) ⌝ }
+{
+    fields::places::all_at(Class::Text, r, from, to)
+}
+
+// Fields 6 to 9 of a record 31. Zeros are text too, so that 64 positions are tested at once; where all hold, no fault is looked for.
 fn texts(r: &[u8]) -> Finding
     requires { ⌜ length (now r) ≡ 81 ⌝ }
     ensures { λ x. ⌜ ((f : Totals) (ks : List ℕ) → x ≡ firstFault f ks (now (r .entry)) texts31) ⌝ }
 {
-    let first = fields::places::all_at(Class::Text, r, 16, 25);
-    let second = fields::places::all_at(Class::Text, r, 26, 50);
-    let third = fields::places::all_at(Class::Text, r, 51, 75);
     let zero = fields::places::all_at(Class::Zero, r, 76, 80);
-    if first & second & third & zero {
+    if fields::places::all_at(Class::Text, r, 16, 79) & zero {
         return Finding::Sound;
     }
     Finding::Sound
-        .demand(first, 8, 6)
-        .demand(second, 8, 7)
-        .demand(third, 8, 8)
+        .demand(text_at(r, 16, 25), 8, 6)
+        .demand(text_at(r, 26, 50), 8, 7)
+        .demand(text_at(r, 51, 75), 8, 8)
         .demand(zero, 7, 9)
 }
 
@@ -58,7 +63,7 @@ pub fn check31(r: &[u8], a: Assignment) -> Finding
 {
     let service = a.service;
     let number = a.number;
-    let head = common::repeating(r, service, a.code, number);
+    let head = common::repeated(r, service, a.code, number);
     match head {
         Finding::Fault(_number, _field) => head,
         Finding::Sound => texts(r),

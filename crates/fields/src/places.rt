@@ -8,6 +8,7 @@ ghost use Rattle.characters.specs.Classes.{inClass};
 ghost use Rattle.numbers.specs.Numbers.{numberOf, codeOf};
 ghost use Rattle.account_numbers.specs.Accounts.{accountOf};
 ghost use Rattle.references.specs.Kids.{atRight, isKid, isReference};
+ghost use Rattle.words.specs.Words.{bytesOf};
 use account_numbers::Account;
 use characters::classes::Class;
 use characters::classes::in_class;
@@ -53,6 +54,14 @@ pub fn same_at(r: &[u8], from: usize, to: usize, t: &[u8]) -> bool
     ensures { λ b. ⌜ b ≡ same (part from to (now (r .entry))) (now (t .entry)) ⌝ }
 {
     characters::texts::same_bytes(&r[from - 1..to], t)
+}
+
+// Four positions as one number, the first byte lowest.
+pub fn four_at(r: &[u8], from: usize) -> u64
+    requires { ⌜ Inside from (from + 3) (now r) ⌝ }
+    ensures { λ x. ⌜ bytesOf 4 x ≡ part from (from + 3) (now (r .entry)) ⌝ }
+{
+    words::half(&r[from - 1..from + 3])
 }
 
 pub fn account_at(r: &[u8], from: usize, to: usize) -> Account

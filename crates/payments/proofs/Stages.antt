@@ -3,11 +3,11 @@
 use Prim.Native.Nat.{ℕ}
 use mathlib.Core.Path.{_≡_, refl, ap, sym, _∙_}
 use mathlib.Core.List.{List, [], _∷_, _++_}
-use mathlib.Core.Bool.{Bool, true, false, not, _&&_, _||_}
+use mathlib.Core.Bool.{Bool, true, false, not, _&&_, _||_, false≢true}
 use lib.Dec.{eqb}
 use Rattle.choice.specs.Choice.{if_then_else_}
 use Rattle.fields.specs.Bytes.{every, isDigit}
-use Rattle.fields.specs.Accounts.{remainder, rightDigit, lastDigit, judged, accountOf, isNumber}
+use Rattle.fields.specs.Accounts.{remainder, rightDigit, lastDigit, judged, accountOf, isRight, isNumber}
 use Rattle.fields.specs.Accounts.{Account}
 use Rattle.fields.specs.Accounts.{Right, WrongDigit, NoRightDigit, NotDigits}
 use Rattle.layout.specs.declared.Finding.{Finding}
@@ -41,3 +41,13 @@ numbers-only false x h = refl
 pub number-in-account : (s : List ℕ) → isNumber (accountOf s) ≡ every isDigit s
 unfolding accountOf
 number-in-account s = numbers-only (every isDigit s) _ (judged-number (lastDigit s) (remainder s))
+
+right-number : (x : Account) → isRight x ≡ true → isNumber x ≡ true
+right-number Right h = refl
+right-number (WrongDigit d) h = refl
+right-number NoRightDigit h = refl
+right-number NotDigits h = absurd (false≢true h)
+
+-- a right account is digits
+pub right-digits : (s : List ℕ) → isRight (accountOf s) ≡ true → every isDigit s ≡ true
+right-digits s h = sym (number-in-account s) ∙ right-number (accountOf s) h

@@ -10,7 +10,7 @@ ghost use Rattle.fields.specs.Bytes.{part};
 ghost use Rattle.fields.specs.Accounts.{isRight, isNumber};
 ghost use Rattle.fields.specs.Kids.{atRight, isReference};
 ghost use Rattle.layout.specs.Rows.{at, member, firstFault};
-ghost use Rattle.rules.specs.Codes.{serviceCode, typeCode};
+ghost use Rattle.rules.specs.Codes.{serviceCode, typeCode, codeFor};
 ghost use Rattle.rules.specs.Payments.{typesFor, isType, typeListed, ownLimit, limitFor, kidForm};
 ghost use Rattle.rules.specs.Layouts.{groupGives, belongs, party30};
 ghost use Rattle.payments.specs.Paid.{NumberedBy, DatedBy, PricedBy, tail30, RestBy, PaidBy};
@@ -68,21 +68,22 @@ fn listed(service: u8, code: u8) -> bool
     (service == 4) & remitted(code)
 }
 
-// The group before is whole; fields 1 to 3.
+// The group before is whole; fields 1 to 3. Where all of it holds, no fault is looked for.
 fn head(r: &[u8], a: Assignment) -> Finding
     requires { ⌜ length (now r) ≡ 81 ⌝ }
     ensures { λ x. ⌜ ((f : Totals) (ks : List ℕ) → x ≡ firstFault f ks (now (r .entry)) ((groupGives a ∷ belongs a (now (r .entry))) ++ (at 3 5 6 (typeListed (serviceCode (now (r .entry)))) ∷ []))) ⌝ }
 {
     let group = a.group;
     let service = a.service;
+    let gives = group.gives(a.due);
+    let code = fields::places::code_at(r, 5);
+    if gives & common::belongs_to(r, service) & listed(common::code_for(service), code) {
+        return Finding::Sound;
+    }
     Finding::Sound
-        .demand(group.gives(a.due), 14, 0)
+        .demand(gives, 14, 0)
         .or_else(common::belonging(r, service))
-        .demand(
-            listed(fields::places::code_at(r, 3), fields::places::code_at(r, 5)),
-            7,
-            3,
-        )
+        .demand(listed(fields::places::code_at(r, 3), code), 7, 3)
 }
 
 // Field 5, the number that comes next.
@@ -161,16 +162,18 @@ fn referred(r: &[u8], service: u8) -> bool
     false
 }
 
-// Field 7, payee or payer.
-fn party(r: &[u8]) -> Finding
-    requires { ⌜ length (now r) ≡ 81 ⌝ }
+// Field 7, payee or payer, of a record of the service. A right account is sound whatever the type.
+fn party(r: &[u8], service: u8) -> Finding
+    requires { ⌜ (length (now r) ≡ 81) × (service ≡ serviceCode (now r)) ⌝ }
     ensures { λ x. ⌜ ((f : Totals) (ks : List ℕ) → x ≡ firstFault f ks (now (r .entry)) (party30 (now (r .entry)))) ⌝ }
 {
-    let service = fields::places::code_at(r, 3);
-    let code = fields::places::code_at(r, 5);
-    let reference = referred(r, service);
     let account = fields::places::account_at(r, 22, 32);
     let right = is_right(account);
+    if right {
+        return Finding::Sound;
+    }
+    let code = fields::places::code_at(r, 5);
+    let reference = referred(r, service);
     Finding::Sound
         .demand(is_number(account) | reference, 8, 7)
         .demand(right | (reference | ((service != 1) & (code == 4))), 11, 7)
@@ -232,12 +235,15 @@ fn charge_kid(r: &[u8]) -> bool
 }
 
 // Field 9, by service and type.
-fn kid_sound(r: &[u8]) -> bool
-    requires { ⌜ length (now r) ≡ 81 ⌝ }
+fn kid_sound(r: &[u8], service: u8) -> bool
+    requires { ⌜ (length (now r) ≡ 81) × (service ≡ serviceCode (now r)) ⌝ }
     ensures { λ x. ⌜ x ≡ kidForm (serviceCode (now (r .entry))) (typeCode (now (r .entry))) (part 50 74 (now (r .entry))) ⌝ }
 {
-    if fields::places::code_at(r, 3) == 1 {
-        return fields::places::all_at(Class::Blank, r, 50, 74) | charge_kid(r);
+    if service == 1 {
+        if fields::places::all_at(Class::Blank, r, 50, 74) {
+            return true;
+        }
+        return charge_kid(r);
     }
     if fields::places::code_at(r, 5) == 12 {
         return fields::places::kid_at(r, 50);
@@ -246,11 +252,11 @@ fn kid_sound(r: &[u8]) -> bool
 }
 
 // Fields 9 and 10. Where both hold, no fault is looked for.
-fn tail(r: &[u8]) -> Finding
-    requires { ⌜ length (now r) ≡ 81 ⌝ }
+fn tail(r: &[u8], service: u8) -> Finding
+    requires { ⌜ (length (now r) ≡ 81) × (service ≡ serviceCode (now r)) ⌝ }
     ensures { λ x. ⌜ ((f : Totals) (ks : List ℕ) → x ≡ firstFault f ks (now (r .entry)) (tail30 (now (r .entry)))) ⌝ }
 {
-    let kid = kid_sound(r);
+    let kid = kid_sound(r, service);
     let zero = fields::places::all_at(Class::Zero, r, 75, 80);
     if kid & zero {
         return Finding::Sound;
@@ -270,7 +276,7 @@ fn wrong(finding: Finding) -> Paid
     }
 }
 
-// Fields 6 to 10 of a record 30 of this number, which end at the first fault.
+// Fields 6 to 10 of a record 30 of this number and of the assignment's service, which end at the first fault.
 fn behind_number(
     r: &[u8],
     w: Window,
@@ -278,7 +284,7 @@ fn behind_number(
     file: Totals,
     number: TransactionNumber,
 ) -> Paid
-    requires { ⌜ length (now r) ≡ 81 ⌝ }
+    requires { ⌜ (length (now r) ≡ 81) × (serviceCode (now r) ≡ codeFor (a .service)) ⌝ }
     ensures { λ x. ⌜ ((ks : List ℕ) → RestBy w a file ks (now (r .entry)) number x) ⌝ }
 {
     let dated = date(r, w, a);
@@ -286,7 +292,9 @@ fn behind_number(
     let Finding::Sound = date_found else {
         return wrong(date_found);
     };
-    let party_found = party(r);
+    let assigned = a.service;
+    let service = common::code_for(assigned);
+    let party_found = party(r, service);
     let Finding::Sound = party_found else {
         return wrong(party_found);
     };
@@ -298,7 +306,7 @@ fn behind_number(
     let date = dated.date;
     let amount = priced.amount;
     Paid {
-        finding: tail(r),
+        finding: tail(r, service),
         number,
         date,
         amount,

@@ -11,8 +11,11 @@ ghost use Rattle.rules.specs.Growth.{passed, start, gain, keys};
 ghost use Rattle.rules.specs.Codes.{serviceCode, serviceFor, kindOf};
 ghost use Rattle.rules.specs.Run.{refused, stepped, kindStep, stepOf, ended, atEnd, run, recordsOf};
 ghost use Rattle.running.specs.Kept.{passedOn, Keyed, Kept, Ran};
+use dates::Date;
 use dates::Service;
 use dates::Window;
+use figures::amounts::Amount;
+use figures::counts::Count;
 use figures::groups::Group;
 use figures::totals::Totals;
 use layout::Finding;
@@ -271,8 +274,14 @@ fn finish(mode: Mode, st: State, before: usize) -> Verdict
     if !gave(mode, a) {
         return refusal(14, before, 0);
     }
-    let file = st.file;
-    Verdict::Accepted(file)
+    // number by number: a copy of the whole would tie the state to the layout of a verdict in every turn of the loop
+    Verdict::Accepted(Totals {
+        assignments: Count(st.file.assignments.0),
+        transactions: Count(st.file.transactions.0),
+        records: Count(st.file.records.0),
+        sum: Amount(st.file.sum.0),
+        first: Date(st.file.first.0),
+    })
 }
 
 fn begin() -> State

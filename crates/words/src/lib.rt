@@ -60,7 +60,8 @@ pub fn word_of_six(s: &[u8]) -> u64
     0x3030 + half(&s[0..4]) * 0x10000 + half(&s[2..6]) / 0x10000 * 0x1000000000000
 }
 
-fn half(s: &[u8]) -> u64
+// Four bytes as one number.
+pub fn half(s: &[u8]) -> u64
     requires { ⌜ length (now s) ≡ 4 ⌝ }
     ensures { λ r. ⌜ (bytesOf 4 r ≡ now (s .entry)) × (r < 0x100000000) ⌝ }
 {

@@ -1,6 +1,6 @@
 -- Fields 6 to 10, stage by stage: a fault ends the record, and each sound stage leaves the rest.
 -- Assumes nothing.
-use mathlib.Core.Path.{refl, _∙_}
+use mathlib.Core.Path.{refl, sym, _∙_}
 use mathlib.Core.List.{List, _++_}
 use Rattle.layout.specs.Rows.{Row}
 use Rattle.layout.proofs.Laws.{ends-here, goes-on}
@@ -12,6 +12,7 @@ use Rattle.payments.proofs.behind_number.Statement.{statement}
 use Rattle.payments.proofs.behind_number.Tie as tie
 use Rattle.payments.proofs.behind_number.Reads as reads
 use Rattle.payments.proofs.behind_number.Lts as lts
+use Rattle.common.proofs.code_for.Reads as code-for-reads
 use Rattle.payments.proofs.amount.Reads as amount-reads
 use Rattle.payments.proofs.date.Reads as date-reads
 use Rattle.payments.proofs.party.Reads as party-reads
@@ -47,8 +48,11 @@ returns c = λ ks.
       amount = λ s. absurd (no-value e fault s);
     }
 
+code-for-requires : tie.Need-code-for-requires
+code-for-requires c κs = search needs
+
 party-requires : tie.Need-party-requires
-party-requires c κs = search needs
+party-requires c κs = let s = c .before .before .before .before .before in (s .pre .0, c .code-for .ensures ∙ sym (s .pre .1))
 
 enum-told-3 : tie.Need-enum-told-3
 enum-told-3 c = search needs
@@ -61,18 +65,18 @@ wrong-requires-2 c κs = search needs
 
 returns-2 : tie.Need-returns-2
 returns-2 c = λ ks.
-    let a = c .before .before .before .before .before .before .before .before .args in
+    let a = c .before .before .before .before .before .before .before .before .before .args in
     let r = a .r .now in
     let f = a .file in
     let days = date30 (a .w) (a .a) r in
     let prices : List Row = amount30 (a .a) r ++ tail30 r in
     let parties : List Row = party30 r ++ prices in
-    let d = c .before .before .before .before .before .before in
+    let d = c .before .before .before .before .before .before .before in
     let e = c .wrong2 .ensures in
     let fault = c .before .enum-told4 .given .1 in
     record {
       finding =
-          goes-on f ks r days parties (d .date .ensures .finding f ks) (c .before .before .before .before .enum-told .given .1)
+          goes-on f ks r days parties (d .date .ensures .finding f ks) (c .before .before .before .before .before .enum-told .given .1)
           (e ∙ ends-here f ks r (party30 r) prices (c .before .before .before .party .ensures f ks) fault);
       number = λ s. absurd (no-value e fault s);
       date = λ s. absurd (no-value e fault s);
@@ -93,19 +97,19 @@ wrong-requires-3 c κs = search needs
 
 returns-3 : tie.Need-returns-3
 returns-3 c = λ ks.
-    let a = c .before .before .before .before .before .before .before .before .before .before .before .args in
+    let a = c .before .before .before .before .before .before .before .before .before .before .before .before .args in
     let r = a .r .now in
     let f = a .file in
     let days = date30 (a .w) (a .a) r in
     let prices : List Row = amount30 (a .a) r ++ tail30 r in
     let parties : List Row = party30 r ++ prices in
     let p = c .before .before .before .before .before .before in
-    let d = p .before .before .before in
+    let d = p .before .before .before .before in
     let e = c .wrong3 .ensures in
     let fault = c .before .enum-told6 .given .1 in
     record {
       finding =
-          goes-on f ks r days parties (d .date .ensures .finding f ks) (p .before .enum-told .given .1)
+          goes-on f ks r days parties (d .date .ensures .finding f ks) (p .before .before .enum-told .given .1)
           (goes-on f ks r (party30 r) prices (p .party .ensures f ks) (c .before .before .before .before .enum-told3 .given .1)
           (e ∙ ends-here f ks r (amount30 (a .a) r) (tail30 r) (c .before .before .before .amount .ensures .finding ks) fault));
       number = λ s. absurd (no-value e fault s);
@@ -114,11 +118,14 @@ returns-3 c = λ ks.
     }
 
 tail-requires : tie.Need-tail-requires
-tail-requires c κs = search needs
+tail-requires c κs =
+    let k = c .before .before .before .before .before .before .before .before in
+    let s = k .before .before .before .before .before in
+    (s .pre .0, k .code-for .ensures ∙ sym (s .pre .1))
 
 returns-4 : tie.Need-returns-4
 returns-4 c = λ ks.
-    let a = c .before .before .before .before .before .before .before .before .before .before .before .before .before .args in
+    let a = c .before .before .before .before .before .before .before .before .before .before .before .before .before .before .args in
     let r = a .r .now in
     let f = a .file in
     let days = date30 (a .w) (a .a) r in
@@ -126,8 +133,8 @@ returns-4 c = λ ks.
     let parties : List Row = party30 r ++ prices in
     let m = c .before .before .before .before .before in
     let p = m .before .before .before in
-    let d = p .before .before .before in
-    let days-sound = p .before .enum-told .given .1 in
+    let d = p .before .before .before .before in
+    let days-sound = p .before .before .enum-told .given .1 in
     let price-sound = c .before .before .before .enum-told5 .given .1 in
     record {
       finding =
@@ -148,6 +155,7 @@ behind-number-spec =
     enum-told-2
     wrong-requires
     returns
+    code-for-requires
     party-requires
     enum-told-3
     enum-told-4

@@ -1,10 +1,15 @@
 -- Record 30, stage by stage: a fault in fields 1 to 5 ends it, and behind them stands the rest.
 -- Assumes nothing.
-use mathlib.Core.Path.{_∙_}
+use Prim.Native.Nat.{ℕ}
+use mathlib.Core.Path.{_≡_, sym, _∙_}
 use mathlib.Core.List.{List, [], _∷_, _++_}
-use Rattle.layout.specs.Rows.{Row, at}
-use Rattle.layout.proofs.Laws.{ends-here, goes-on}
-use Rattle.rules.specs.Codes.{serviceCode}
+use borrow.Author.Tests.{eqb-true}
+use Rattle.figures.specs.declared.totals.Totals.{Totals}
+use Rattle.layout.specs.Rows.{Row, at, firstFault, AllHold}
+use Rattle.layout.specs.declared.Finding.the-variants.{Sound}
+use Rattle.layout.proofs.Laws.{ends-here, goes-on, all-of-sound}
+use Rattle.rules.specs.Codes.{serviceCode, codeFor}
+use Rattle.rules.specs.declared.Assignment.{Assignment}
 use Rattle.rules.specs.Payments.{typeListed}
 use Rattle.rules.specs.Layouts.{groupGives, belongs, number30}
 use Rattle.payments.specs.Paid.{rest30}
@@ -18,6 +23,12 @@ use Rattle.payments.proofs.behind_number.Reads as behind-number-reads
 use Rattle.payments.proofs.head.Reads as head-reads
 use Rattle.payments.proofs.number.Reads as number-reads
 use Rattle.payments.proofs.wrong.Reads as wrong-reads
+
+-- a record whose first fields are sound is of the assignment's service
+own-service : (f : Totals) (ks r : List ℕ) (a : Assignment) → firstFault f ks r ((groupGives a ∷ belongs a r) ++ (at 3 5 6 (typeListed (serviceCode r)) ∷ [])) ≡ Sound
+    → serviceCode r ≡ codeFor (a .service)
+unfolding AllHold
+own-service f ks r a e = eqb-true (serviceCode r) (codeFor (a .service)) (all-of-sound f ks r ((groupGives a ∷ belongs a r) ++ (at 3 5 6 (typeListed (serviceCode r)) ∷ [])) e .1 .1 .0)
 
 head-requires : tie.Need-head-requires
 head-requires c κs = search needs
@@ -81,7 +92,13 @@ returns-2 c = λ ks.
     }
 
 behind-number-requires : tie.Need-behind-number-requires
-behind-number-requires c κs = search needs
+behind-number-requires c κs =
+    let n = c .before .before in
+    let h = n .before .before .before in
+    let s = h .before .before in
+    let a = s .args in
+    let r = a .r .now in
+    (s .pre, own-service (a .file) [] r (a .a) (sym (h .head .ensures (a .file) []) ∙ n .before .enum-told .given .1))
 
 returns-3 : tie.Need-returns-3
 returns-3 c = λ ks.

@@ -38,9 +38,9 @@ returns-2 c =
 returns-3 : tie.Need-returns-3
 unfolding atEnd
 returns-3 c =
-    let p = c .before .before in
+    let p = c .before in
     let q = p .before .before in
-    rw (sym (q .may-end .ensures) ∙ not-false _ (p .before .if1 .left), sym (p .gave .ensures) ∙ not-false _ (c .before .if2 .left))
+    rw (sym (q .may-end .ensures) ∙ not-false _ (p .before .if1 .left), sym (p .gave .ensures) ∙ not-false _ (c .if2 .left))
 
 pub finish-spec : {M : Type 1} → statement M
 finish-spec =

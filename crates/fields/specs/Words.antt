@@ -1,0 +1,3 @@
+-- Bytes as one number. Passed on from `words`.
+-- Assumes nothing.
+unfoldable pub use Rattle.words.specs.Words.{bytesOf}
