@@ -5,7 +5,7 @@ ghost use Prim.Native.Nat.{_+_, _≤_};
 ghost use lib.ListN.{length};
 ghost use Rattle.characters.specs.Bytes.{every, isZero, same, part, Inside};
 ghost use Rattle.characters.specs.Classes.{inClass};
-ghost use Rattle.numbers.specs.Numbers.{numberOf, codeOf};
+ghost use Rattle.numbers.specs.Numbers.{numberOf, paired, codeOf};
 ghost use Rattle.account_numbers.specs.Accounts.{accountOf};
 ghost use Rattle.references.specs.Kids.{atRight, isKid, isReference};
 ghost use Rattle.words.specs.Words.{bytesOf};
@@ -19,6 +19,14 @@ pub fn number_at(r: &[u8], from: usize, to: usize) -> Digits
     ensures { λ d. ⌜ d ≡ numberOf (part from to (now (r .entry))) ⌝ }
 {
     numbers::number(&r[from - 1..to])
+}
+
+// Six digits two by two.
+pub fn pairs_at(r: &[u8], from: usize) -> Digits
+    requires { ⌜ Inside from (from + 5) (now r) ⌝ }
+    ensures { λ d. ⌜ d ≡ paired (numberOf (part from (from + 5) (now (r .entry)))) ⌝ }
+{
+    numbers::pairs(&r[from - 1..from + 5])
 }
 
 // A code of two digits as a number, or 100.

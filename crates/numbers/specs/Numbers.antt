@@ -6,11 +6,17 @@ use Rattle.choice.specs.Choice.{if_then_else_}
 use Rattle.characters.specs.Bytes.{every, isDigit}
 unfoldable pub use Rattle.words.specs.Values.{valueFrom}
 pub use Rattle.words.specs.Values.{value}
+pub use Rattle.words.specs.Words.{pairsOf}
 use Rattle.numbers.specs.declared.Digits.{Digits}
 use Rattle.numbers.specs.declared.Digits.the-variants.{Number, NotDigits}
 
 unfoldable pub numberOf : List ℕ → Digits
 numberOf s = if every isDigit s then Number (value s) else NotDigits
+
+-- what a field writes, its digits two by two
+abbrev pub paired : Digits → Digits
+paired (Number n) = Number (pairsOf n)
+paired NotDigits = NotDigits
 
 -- the last w digits of n, the highest first
 unfoldable pub written : ℕ → ℕ → List ℕ

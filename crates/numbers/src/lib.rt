@@ -5,12 +5,13 @@ ghost use mathlib.Core.Bool.{true};
 ghost use Prim.Native.Nat.{_≤_};
 ghost use lib.ListN.{length};
 ghost use Rattle.characters.specs.Bytes.{every, isDigit};
-ghost use Rattle.numbers.specs.Numbers.{value, numberOf};
+ghost use Rattle.numbers.specs.Numbers.{value, numberOf, paired};
 ghost use Rattle.words.specs.Words.{bytesOf};
 use characters::classes::Class;
 use characters::classes::all_in;
 use characters::classes::in_class;
 use words::all_digits;
+use words::pairs_in;
 use words::value_in;
 use words::wide;
 use words::word;
@@ -61,6 +62,18 @@ fn six(s: &[u8]) -> Digits
     ensures { λ r. ⌜ r ≡ numberOf (now (s .entry)) ⌝ }
 {
     number_in(word_of_six(s))
+}
+
+// Six digits as three numbers of two, in place of the one that they write.
+pub fn pairs(s: &[u8]) -> Digits
+    requires { ⌜ length (now s) ≡ 6 ⌝ }
+    ensures { λ r. ⌜ r ≡ paired (numberOf (now (s .entry))) ⌝ }
+{
+    let x = word_of_six(s);
+    if !all_digits(x) {
+        return Digits::NotDigits;
+    }
+    Digits::Number(pairs_in(x))
 }
 
 // One digit, and a word.

@@ -1,2 +1,3 @@
 pub mod Types
+pub mod Days
 pub mod Stages

@@ -3,10 +3,12 @@
 ghost use mathlib.Core.Path.{_≡_};
 ghost use mathlib.Core.Bool.{_&&_};
 ghost use mathlib.Core.List.{List, [], _∷_, _++_};
-ghost use Prim.Native.Nat.{ℕ};
+ghost use Prim.Native.Nat.{ℕ, _<_};
 ghost use lib.Dec.{eqb};
 ghost use lib.ListN.{length};
+ghost use Rattle.dates.specs.Dates.{readDay};
 ghost use Rattle.fields.specs.Bytes.{part};
+ghost use Rattle.fields.specs.Numbers.{pairsOf};
 ghost use Rattle.fields.specs.Accounts.{isRight, isNumber};
 ghost use Rattle.fields.specs.Kids.{atRight, isReference};
 ghost use Rattle.layout.specs.Rows.{at, member, firstFault};
@@ -105,18 +107,29 @@ fn number(r: &[u8], a: Assignment) -> Numbered
     }
 }
 
+// The date whose day, month and year are numbers of two digits, side by side.
+fn day_in(pairs: u64) -> Day
+    ensures { λ x. ⌜ ((n : ℕ) → n < 1000000 → pairs ≡ pairsOf n → x ≡ readDay n) ⌝ }
+{
+    dates::day_of(
+        2000 + pairs / 0x1000000000000,
+        pairs / 0x100000000 % 0x10000,
+        pairs / 0x10000 % 0x10000,
+    )
+}
+
 // Field 6, a date that is in time for the service.
 fn date(r: &[u8], w: Window, a: Assignment) -> Dated
     requires { ⌜ length (now r) ≡ 81 ⌝ }
     ensures { λ x. ⌜ DatedBy w a (now (r .entry)) x ⌝ }
 {
-    let Digits::Number(n) = fields::places::number_at(r, 16, 21) else {
+    let Digits::Number(pairs) = fields::places::pairs_at(r, 16) else {
         return Dated {
             finding: Finding::Fault(8, 6),
             date: Date(0),
         };
     };
-    let Day::On(date) = dates::read_day(n) else {
+    let Day::On(date) = day_in(pairs) else {
         return Dated {
             finding: Finding::Fault(9, 6),
             date: Date(0),

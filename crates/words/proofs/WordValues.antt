@@ -13,14 +13,11 @@ use lib.ListN.{length, getD}
 use lib.Pow.{pow-add, pow-mono, low, high, ones-lt}
 use Rattle.characters.specs.Bytes.{every, isDigit}
 use Rattle.words.specs.Values.{valueFrom, value}
-use Rattle.words.specs.Words.{bytesOf}
+use Rattle.words.specs.Words.{bytesOf, twosOf, pairsOf}
 use Rattle.characters.proofs.Every.{every-at, digit-high}
 use Rattle.words.proofs.WordTests.{times, packed, digits-left}
 
--- what the code computes of the digits, of the twos and of the fours
-abbrev pub twosOf : ℕ → ℕ
-twosOf y = bitAnd (y * 10 + y / 0x100) 0x00FF00FF00FF00FF
-
+-- what the code computes of the twos and of the fours
 abbrev pub foursOf : ℕ → ℕ
 foursOf p = bitAnd (p * 100 + p / 0x10000) 0x0000FFFF0000FFFF
 
@@ -101,6 +98,44 @@ eight a b c d e f g h k =
     simp zero-add
     (steps (a - 48) (b - 48) (c - 48) (d - 48) (e - 48) (f - 48) (g - 48) (h - 48)
     (small 0 k (lit< tt)) (small 1 k (lit< tt)) (small 2 k (lit< tt)) (small 3 k (lit< tt)) (small 4 k (lit< tt)) (small 5 k (lit< tt)) (small 6 k (lit< tt)) (small 7 k (lit< tt)))
+
+pairs-are : (a b c d e f g h : ℕ) → a < 10 → b < 10 → c < 10 → d < 10 → e < 10 → f < 10 → g < 10 → h < 10
+    → (((g * 10 + h) * 65536 + (e * 10 + f)) * 65536 + (c * 10 + d)) * 65536 + (a * 10 + b)
+    ≡ pairsOf (((((((a * 10 + b) * 10 + c) * 10 + d) * 10 + e) * 10 + f) * 10 + g) * 10 + h)
+pairs-are a b c d e f g h ha hb hc hd he hf hg hh =
+    let n = ((((((a * 10 + b) * 10 + c) * 10 + d) * 10 + e) * 10 + f) * 10 + g) * 10 + h in
+    let six = ((((a * 10 + b) * 10 + c) * 10 + d) * 10 + e) * 10 + f in
+    let four = ((a * 10 + b) * 10 + c) * 10 + d in
+    let to-six : n / 100 ≡ six = omega arith in
+    let to-four : n / 10000 ≡ four = omega arith in
+    let six-ends : six % 100 ≡ e * 10 + f = omega arith in
+    let four-ends : four % 100 ≡ c * 10 + d = omega arith in
+    let year : n % 100 ≡ g * 10 + h = omega arith in
+    let month : n / 100 % 100 ≡ e * 10 + f = ap (λ (z : ℕ). z % 100) to-six ∙ six-ends in
+    let day : n / 10000 % 100 ≡ c * 10 + d = ap (λ (z : ℕ). z % 100) to-four ∙ four-ends in
+    let first : n / 1000000 ≡ a * 10 + b = omega arith in
+    rw (year, month, day, first)
+
+eight-pairs : (a b c d e f g h : ℕ) → let s = a ∷ b ∷ c ∷ d ∷ e ∷ f ∷ g ∷ h ∷ [] in every isDigit s ≡ true → twosOf (packed s) ≡ pairsOf (value s)
+unfolding packed valueFrom
+eight-pairs a b c d e f g h k =
+    let small = digit-below (a ∷ b ∷ c ∷ d ∷ e ∷ f ∷ g ∷ h ∷ []) in
+    let la = small 0 k (lit< tt) in
+    let lb = small 1 k (lit< tt) in
+    let lc = small 2 k (lit< tt) in
+    let ld = small 3 k (lit< tt) in
+    let le = small 4 k (lit< tt) in
+    let lf = small 5 k (lit< tt) in
+    let lg = small 6 k (lit< tt) in
+    let lh = small 7 k (lit< tt) in
+    simp zero-add
+    (twos-are (a - 48) (b - 48) (c - 48) (d - 48) (e - 48) (f - 48) (g - 48) (h - 48) la lb lc ld le lf lg lh
+    ∙ pairs-are (a - 48) (b - 48) (c - 48) (d - 48) (e - 48) (f - 48) (g - 48) (h - 48) la lb lc ld le lf lg lh)
+
+-- the pairs that the code makes of eight bytes
+pub word-pairs : (x : ℕ) → every isDigit (bytesOf 8 x) ≡ true → twosOf (bitAnd x 0x0F0F0F0F0F0F0F0F) ≡ pairsOf (value (bytesOf 8 x))
+unfolding times bytesOf
+word-pairs x h = ap twosOf (digits-left 8 x h) ∙ eight-pairs _ _ _ _ _ _ _ _ h
 
 -- the number that the code makes of eight bytes
 pub word-value : (x : ℕ) → every isDigit (bytesOf 8 x) ≡ true → allOf (foursOf (twosOf (bitAnd x 0x0F0F0F0F0F0F0F0F))) ≡ value (bytesOf 8 x)

@@ -4,10 +4,11 @@ ghost use mathlib.Core.Path.{_≡_};
 ghost use mathlib.Core.Bool.{true};
 ghost use mathlib.Core.List.{_∷_};
 ghost use Prim.Native.Nat.{_<_};
+ghost use lib.Bits.{bitAnd};
 ghost use lib.ListN.{length};
 ghost use Rattle.characters.specs.Bytes.{every, isDigit};
 ghost use Rattle.words.specs.Values.{value};
-ghost use Rattle.words.specs.Words.{bytesOf};
+ghost use Rattle.words.specs.Words.{bytesOf, twosOf, pairsOf};
 
 // Eleven bytes are digits: two words, which share five bytes.
 pub fn eleven_digits(s: &[u8]) -> bool
@@ -26,13 +27,20 @@ pub fn all_digits(x: u64) -> bool
         & ((low + 0x0606060606060606) & 0xF0F0F0F0F0F0F0F0 == 0)
 }
 
-// Eight digits become four numbers of two digits, those two of four, and those the number.
+// Eight digits become four numbers of two digits, sixteen bits each, the first lowest.
+pub fn pairs_in(x: u64) -> u64
+    ensures { λ r. ⌜ (r ≡ twosOf (bitAnd x 0x0F0F0F0F0F0F0F0F)) × (every isDigit (bytesOf 8 x) ≡ true → r ≡ pairsOf (value (bytesOf 8 x))) ⌝ }
+{
+    let ones = x & 0x0F0F0F0F0F0F0F0F;
+    (ones * 10 + (ones >> 8)) & 0x00FF00FF00FF00FF
+}
+
+// The pairs become two numbers of four digits, and those the number.
 pub fn value_in(x: u64) -> u64
     requires { ⌜ every isDigit (bytesOf 8 x) ≡ true ⌝ }
     ensures { λ r. ⌜ r ≡ value (bytesOf 8 x) ⌝ }
 {
-    let ones = x & 0x0F0F0F0F0F0F0F0F;
-    let twos = (ones * 10 + (ones >> 8)) & 0x00FF00FF00FF00FF;
+    let twos = pairs_in(x);
     let fours = (twos * 100 + (twos >> 16)) & 0x0000FFFF0000FFFF;
     (fours * 10000 + (fours >> 32)) & 0xFFFFFFFF
 }
