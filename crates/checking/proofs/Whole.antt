@@ -20,6 +20,7 @@ use Rattle.figures.specs.declared.totals.Totals.{Totals}
 use Rattle.rules.specs.declared.Refusal.{Refusal}
 use Rattle.rules.specs.declared.Verdict.{Verdict}
 use Rattle.rules.specs.declared.Verdict.the-variants.{Accepted, Refused}
+use Rattle.running.specs.Kept.{Left}
 use native.Mathlib.Omega.{arith}
 
 module _ (day : ProcessDay) (b : List ℕ) (o : Opening) (opened : o ≡ windowOf day) where
@@ -46,8 +47,12 @@ module _ (w : Window) (b : List ℕ) (bad : Bool) (e : bad ≡ badLength b) wher
     in-turn h = rw (sym e ∙ even, le-leb (length b / 81) mostRecords h)
 
 -- a refusal has no figures
-pub no-figures : (v : Verdict) (n : ℕ) (t : Totals) → v ≡ refused n 0 0 0 → v ≡ Accepted t → ⊥
+no-figures : (v : Verdict) (n : ℕ) (t : Totals) → v ≡ refused n 0 0 0 → v ≡ Accepted t → ⊥
 no-figures v n t e q = refused-apart _ t (sym e ∙ q)
   where
     refused-apart : (x : Refusal) (t : Totals) → Refused x ≡ Accepted t → ⊥
     refused-apart x t z = let y : _≡_ {A = ℕ} 0 1 = cc in omega arith
+
+-- and leaves nothing that counts
+pub leaves-none : (b kept figures : List ℕ) (v : Verdict) (n : ℕ) → v ≡ refused n 0 0 0 → Left b kept figures v
+leaves-none b kept figures v n e = record { found = λ t q. absurd (no-figures v n t e q); figured = λ t q. absurd (no-figures v n t e q) }

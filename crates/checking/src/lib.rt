@@ -1,11 +1,9 @@
 // Checking a file, of any bytes, on any process day.
 
 ghost use mathlib.Core.Path.{_≡_};
-ghost use lib.ListN.{length, take};
-ghost use Rattle.figures.specs.declared.totals.Totals.{Totals};
-ghost use Rattle.rules.specs.Growth.{allKeys};
-ghost use Rattle.rules.specs.Run.{refused, recordsOf, badLength, judge, checkOf};
-ghost use Rattle.rules.specs.declared.Verdict.the-variants.{Accepted};
+ghost use lib.ListN.{length};
+ghost use Rattle.rules.specs.Run.{refused, badLength, judge, checkOf};
+ghost use Rattle.running.specs.Kept.{Left};
 use dates::Opening;
 use dates::ProcessDay;
 use dates::Window;
@@ -33,10 +31,10 @@ pub fn bad_length(bytes: &[u8]) -> bool
     (len == 0) | (len % 81 != 0)
 }
 
-// On a process day that is one: the length, the number of records, then the records in turn. An accepted file leaves its keys.
-pub fn judge(w: Window, file: &[u8], kept: &mut [u64]) -> Verdict
+// On a process day that is one: the length, the number of records, then the records in turn. An accepted file leaves its keys, and where there is room its figures.
+pub fn judge(w: Window, file: &[u8], kept: &mut [u64], figures: &mut [u64]) -> Verdict
     requires { ⌜ length (now kept) ≡ 500 ⌝ }
-    ensures { λ x. ⌜ (x ≡ judge w (now (file .entry))) × ((t : Totals) → x ≡ Accepted t → take (t .assignments .0) (now (kept .exit)) ≡ allKeys (recordsOf (now (file .entry)))) ⌝ }
+    ensures { λ x. ⌜ (x ≡ judge w (now (file .entry))) × Left (now (file .entry)) (now (kept .exit)) (now (figures .exit)) x ⌝ }
 {
     if bad_length(file) {
         return refuse(2);
@@ -44,16 +42,25 @@ pub fn judge(w: Window, file: &[u8], kept: &mut [u64]) -> Verdict
     if 200000 < file.len() / 81 {
         return refuse(3);
     }
-    running::run_over(Mode::File, w, file, kept)
+    running::run_over(Mode::File, w, file, kept, figures)
+}
+
+// Accepted with the figures of its records, or refused for its first fault; leaves what judging leaves.
+pub fn check_into(day: ProcessDay, file: &[u8], kept: &mut [u64], figures: &mut [u64]) -> Verdict
+    requires { ⌜ length (now kept) ≡ 500 ⌝ }
+    ensures { λ x. ⌜ (x ≡ checkOf day (now (file .entry))) × Left (now (file .entry)) (now (kept .exit)) (now (figures .exit)) x ⌝ }
+{
+    let Opening::Open(w) = day.window() else {
+        return refuse(1);
+    };
+    judge(w, file, kept, figures)
 }
 
 // Accepted with the figures of its records, or refused for its first fault.
 pub fn check(day: ProcessDay, file: &[u8]) -> Verdict
     ensures { λ x. ⌜ x ≡ checkOf day (now (file .entry)) ⌝ }
 {
-    let Opening::Open(w) = day.window() else {
-        return refuse(1);
-    };
     let mut kept = [0u64; 500];
-    judge(w, file, &mut kept)
+    let mut figures = [0u64; 1];
+    check_into(day, file, &mut kept, &mut figures)
 }

@@ -1,8 +1,8 @@
 -- The count of records that open an assignment, from one record to the next.
 -- Assumes nothing.
-use Prim.Native.Nat.{ℕ, _+_, _*_, _/_, _≤_, _<_}
-use mathlib.Core.Path.{_≡_, refl, sym, ap, _∙_}
-use mathlib.Core.List.{List}
+use Prim.Native.Nat.{ℕ, _+_, _/_, _≤_, _<_}
+use mathlib.Core.Path.{_≡_, sym, ap, _∙_}
+use mathlib.Core.List.{List, [], _∷_}
 use mathlib.Core.Bool.{Bool, true, false}
 use native.Mathlib.Omega.{arith}
 use borrow.Author.Tests.{eq-eqb, ne-eqb}
@@ -31,6 +31,12 @@ at-most false = omega arith
 
 pub one-at-most : (r : List ℕ) (x : ℕ) → x ≡ oneIf (opens r) → x ≤ 1
 one-at-most r x e = omega (arith, e, at-most (opens r))
+
+-- no more than records
+pub openings-few : (rs : List (List ℕ)) → openings rs ≤ length rs
+unfolding openings
+openings-few [] = omega arith
+openings-few (r ∷ rs) = omega (arith, at-most (opens r), openings-few rs)
 
 -- behind k records
 pub record Counted (d : List ℕ) (found k : ℕ) : Type 0 where

@@ -1,6 +1,6 @@
 -- The file that a draft is closed to, written one assignment behind the other.
 -- Assumes nothing.
-use Prim.Native.Nat.{ℕ, zero, suc, _+_, _-_, _*_, _/_, _%_, _≤_, _<_}
+use Prim.Native.Nat.{ℕ, _+_, _-_, _*_, _/_, _≤_, _<_}
 use mathlib.Core.Path.{_≡_, refl, sym, ap, ap₂, subst, _∙_}
 use mathlib.Core.List.{List, [], _∷_, _++_, append-assoc, append-nil}
 use mathlib.Core.Bool.{Bool, true, false, _&&_, and-false, or-false, false≢true}
@@ -13,36 +13,40 @@ use lib.Seq.{drop-drop, drop-append-seam, drop-append-add}
 use Rattle.choice.specs.Choice.{if_then_else_}
 use Rattle.dates.specs.Dates.{date, earlier}
 use Rattle.dates.specs.declared.Date.{Date}
-use Rattle.dates.specs.declared.Window.{Window}
 use Rattle.dates.proofs.Laws.{earlier-comm, none-earlier}
 use Rattle.figures.specs.Figures.{amount, count}
-use Rattle.figures.specs.Totals.{none, _⊕_, oneRecord, oneAssignment}
+use Rattle.figures.specs.Totals.{none, _⊕_, oneRecord, oneAssignment, _⊞_, undated, Room}
 use Rattle.figures.specs.declared.totals.Totals.{Totals}
 use Rattle.figures.specs.declared.totals.AssignmentTotals.{AssignmentTotals}
 use Rattle.figures.proofs.Laws.{⊕-none, none-⊕}
-use Rattle.laws.specs.Meets.{gains, turns, Meets, Ends}
-use Rattle.laws.proofs.Bytes.{Whole, whole}
+use Rattle.growth.specs.Bounds.{Bounded}
+use Rattle.laws.specs.Meets.{gains, turns, Meets}
+use Rattle.laws.proofs.Bytes.{whole, record-count}
 use Rattle.laws.proofs.Made.{bytes-join}
 use Rattle.layout.specs.Rows.{member, AllHold}
-use Rattle.operations.specs.Ends.{endRecord, end88, end89}
+use Rattle.operations.specs.Ends.{endRecord, end88}
 use Rattle.operations.specs.Closing.{opens, closedFigures, behind88, withEnds, bytesOf, closedFile}
 use Rattle.rules.specs.Codes.{serviceCode, recordCode, codeFor, serviceFor, kindFor, kindOf, numberOfKind}
-use Rattle.rules.specs.Growth.{gainFor, gain, turnFor, turn, keys, after, start, nothingYet, opened}
+use Rattle.rules.specs.Growth.{gainFor, gain, turnFor, turn, after, start, nothingYet, opened}
 use Rattle.rules.specs.Order.{mayFollow, mayEnd}
-use Rattle.rules.specs.Layouts.{rows}
 use Rattle.rules.specs.Run.{chunks, recordsOf, badLength}
 use Rattle.rules.specs.declared.Assignment.{Assignment}
 use Rattle.rules.specs.declared.Kind.{Kind}
 use Rattle.rules.specs.declared.Kind.the-variants.{R10, R20, R30, R31, R40, R49, R50, R88, R89, Other}
-use Rattle.rules.specs.declared.Mode.the-variants.{File, Draft}
+use Rattle.rules.specs.declared.Mode.the-variants.{Draft}
 use Rattle.rules.specs.declared.State.{State}
 use Rattle.rules.proofs.Codes.{twenty}
+use Rattle.running.specs.Figured.{blocks, figuresIn}
+use Rattle.running.proofs.Figures.{blocks-on, blocks-open}
 use Rattle.running.proofs.Loop.{small-start}
 use Rattle.running.proofs.Records.{rest-start, rest-end, part-is}
 use Rattle.writing.proofs.Wrote.{Wrote, at-first, behind, told, wrote-length, room-behind, end-length}
 use Rattle.drafts.specs.Block.{recordsFrom, between, recordAt, state, Ahead, behindEnd, Block}
-use Rattle.drafts.proofs.Within.{twenty-code}
-use Rattle.drafts.proofs.Walk.{next-of, laid, plain, holds, step-on, step-turned, handed}
+use Rattle.running.proofs.Keys.{twenty-code}
+use Rattle.drafts.proofs.Walk.{next-of, laid, plain, holds, step-on, step-turned, Ending, ending, handed}
+use Rattle.summing.specs.Sums.{entry, Legible, Holding}
+use Rattle.summing.proofs.Held.{Small, AllSmall, entry-is, legible, held-next}
+use Rattle.summing.proofs.Assignments.{AllListed, all-listed, gains-bounded, figures-of}
 use Rattle.closing.specs.Weighed.{span, endOf, InDraft, Weighed}
 
 -- ---- records and bytes
@@ -63,8 +67,8 @@ abbrev pub sofar : Totals → Totals
 sofar t =
     record { assignments = t .assignments; transactions = t .transactions; records = count (t .records .0 + t .assignments .0); sum = t .sum; first = t .first }
 
-undated : (d : Date) → earlier d (date 0) ≡ d
-undated d = earlier-comm d (date 0) ∙ none-earlier d
+no-date : (d : Date) → earlier d (date 0) ≡ d
+no-date d = earlier-comm d (date 0) ∙ none-earlier d
 
 -- an assignment and its 88 more
 block-more : (x y t : Totals) → t .assignments .0 ≡ 1 → y ⊕ oneRecord ≡ x ⊕ t → sofar x ⊕ t ≡ sofar y
@@ -74,11 +78,11 @@ block-more x y t o e =
     let n : y .transactions .0 + 0 ≡ x .transactions .0 + t .transactions .0 = ap (λ (z : Totals). z .transactions .0) e in
     let s : y .sum .0 + 0 ≡ x .sum .0 + t .sum .0 = ap (λ (z : Totals). z .sum .0) e in
     let f : earlier (y .first) (date 0) ≡ earlier (x .first) (t .first) = ap (λ (z : Totals). z .first) e in
-    same-figures (sofar x ⊕ t) (sofar y) (omega arith) (omega arith) (omega arith) (omega arith) (sym f ∙ undated (y .first))
+    same-figures (sofar x ⊕ t) (sofar y) (omega arith) (omega arith) (omega arith) (omega arith) (sym f ∙ no-date (y .first))
 
 -- the 89 more
 all-told : (t : Totals) → sofar t ⊕ oneRecord ≡ closedFigures t
-all-told t = same-figures (sofar t ⊕ oneRecord) (closedFigures t) (omega arith) (omega arith) (omega arith) (omega arith) (undated (t .first))
+all-told t = same-figures (sofar t ⊕ oneRecord) (closedFigures t) (omega arith) (omega arith) (omega arith) (omega arith) (no-date (t .first))
 
 -- ---- how a sound draft begins
 kind-again : (k : Kind) → kindFor (numberOfKind k) ≡ k
@@ -112,12 +116,15 @@ not-yet-end : mayEnd Draft (nothingYet R10) ≡ true → ⊥
 unfolding mayEnd mayFollow member
 not-yet-end h = false≢true h
 
+ten-not-twenty : R20 ≡ R10 → ⊥
+ten-not-twenty z = let y : _≡_ {A = ℕ} 20 10 = ap numberOfKind z in omega arith
+
+ten-not-other : R10 ≡ Other → ⊥
+ten-not-other z = let y : _≡_ {A = ℕ} 10 0 = ap numberOfKind z in omega arith
+
 ten-opens-not : (n : ℕ) → kindFor n ≡ R10 → eqb n 20 ≡ false
 unfolding kindFor
-ten-opens-not n e = ne-eqb n 20 (λ q. clash (sym (ap kindFor q) ∙ e))
-  where
-    clash : R20 ≡ R10 → ⊥
-    clash z = let y : _≡_ {A = ℕ} 20 10 = ap numberOfKind z in omega arith
+ten-opens-not n e = ne-eqb n 20 (λ q. ten-not-twenty (sym (ap kindFor q) ∙ e))
 
 some-records : (d : List ℕ) → badLength d ≡ false → 0 < length d / 81
 some-records d h = let w = whole d h in omega (arith, w .some, w .exact)
@@ -210,6 +217,60 @@ module _ (d : List ℕ) (figures : Totals) (v : Weighed d figures) where
       ∙ ap bytesOf (ten-written r s (recordsFrom 2 d) header k)
       ∙ ap₂ (λ (f : Totals) (x : List (List ℕ)). r ++ bytesOf (behindEnd (sofar f) x)) (sym (ten-gained r header)) (sym i)
 
+-- ---- the figures that the run left, from the k-th record of the draft on
+pub record Reading (d kept : List ℕ) (j k : ℕ) : Type 0 where
+  pub held : Holding kept j (figuresIn (recordsFrom k d))
+  pub small : AllSmall (figuresIn (recordsFrom k d))
+
+pub reading-start : (d : List ℕ) (figures : Totals) (kept : List ℕ) → Weighed d figures → Holding kept 0 (blocks (start .assignment) (recordsOf d)) → Reading d kept 1 1
+reading-start d figures kept v h =
+    let r = recordAt 0 d in
+    let s = recordAt 1 d in
+    let a = behind-header d figures v in
+    let n = next-of d 1 (more-records d figures v) in
+    let k : kindOf s ≡ R20 = twenty (recordCode s) (eqb-true (recordCode s) 20 (first-opens d figures v)) in
+    let b : blocks (start .assignment) (recordsOf d) ≡ turn r (start .assignment) .totals ∷ figuresIn (recordsFrom 1 d) =
+    ap (blocks (start .assignment)) (records-are d figures v) ∙ blocks-on (start .assignment) r (recordsFrom 1 d) (λ e. ten-not-twenty (sym e ∙ header d figures v))
+    ∙ ap (blocks (turn r (start .assignment))) n ∙ blocks-open (turn r (start .assignment)) s (recordsFrom 2 d) k ∙ ap (λ (x : List (List ℕ)). turn r (start .assignment) .totals ∷ figuresIn x) (sym n) in
+    let l : AllListed (s ∷ recordsFrom 2 d) = subst AllListed n (all-listed Draft (a .window) (a .file) (a .kept) (a .assignment) (recordsFrom 1 d) (λ e. ten-not-other (sym (ap (λ (x : Assignment). x .last) (turned d figures v)) ∙ e)) (a .meets)) in
+    let g = gains-bounded Draft (a .window) (a .file) (a .kept) (a .assignment) (recordsFrom 1 d) (a .small .file .sum) (omega (arith, a .small .file .assignments)) (omega (arith, record-count d, ap length (records-are d figures v), v .few)) (a .meets) in
+    record {
+      held = held-next kept 0 _ _ (subst (Holding kept 0) b h);
+      small = subst (λ (x : List (List ℕ)). AllSmall (figuresIn x)) (sym n) (figures-of s (recordsFrom 2 d) k l .small (subst (λ (x : List (List ℕ)). Bounded 200000 (gains x)) n g));
+    }
+
+-- the assignment at hand, as the code comes to it, and those behind it
+module _ (d kept : List ℕ) (j k : ℕ) (v : Reading d kept j k) (e : Ending d k) where
+  now-held : Holding kept j (e .block .own ∷ figuresIn (recordsFrom (e .next) d))
+  now-held = subst (Holding kept j) (e .block .left) (v .held)
+
+  now-small : Small (e .block .own) × AllSmall (figuresIn (recordsFrom (e .next) d))
+  unfolding AllSmall
+  now-small = subst AllSmall (e .block .left) (v .small)
+
+  pub may-read : Legible kept j
+  may-read = legible kept j _ _ now-held (now-small .0)
+
+  module _ (x : AssignmentTotals) (q : x ≡ entry kept j) where
+    own-is : x ≡ e .block .own
+    own-is = q ∙ entry-is kept j _ _ now-held (now-small .0 .single)
+
+    pub takes-end : Room (x .totals) oneRecord
+    takes-end =
+        let b = subst (λ (y : AssignmentTotals). Bounded 200000 (y .totals)) (sym own-is) (now-small .0 .bounded) in
+        record { assignments = omega (arith, b .assignments); transactions = omega (arith, b .transactions); records = omega (arith, b .records); sum = omega (arith, b .sum) }
+
+    next-is : e .next ≡ k + x .totals .records .0
+    next-is = e .block .next ∙ ap (λ (y : AssignmentTotals). k + y .totals .records .0) (sym own-is)
+
+    pub block-is : (y : AssignmentTotals) → y ≡ x ⊞ undated oneRecord → Block d k (k + x .totals .records .0) y
+    block-is y p =
+        let i : e .totals ≡ y = e .block .ended ∙ ap (λ (z : AssignmentTotals). z ⊞ undated oneRecord) (sym own-is) ∙ sym p in
+        subst (λ (n : ℕ). Block d k n y) next-is (subst (Block d k (e .next)) i (e .block))
+
+    pub reading-next : Reading d kept (j + 1) (k + x .totals .records .0)
+    reading-next = subst (Reading d kept (j + 1)) next-is record { held = held-next kept j _ _ now-held; small = now-small .1 }
+
 -- ---- the writing: the file is written up to the k-th record of the draft, and at bytes long so far
 pub record Going (d before out : List ℕ) (at k : ℕ) : Type 0 where
   pub written : List ℕ
@@ -263,6 +324,10 @@ module _ (d before out : List ℕ) (at k : ℕ) (g : Going d before out at k) wh
   pub out-long : length out ≡ length before
   out-long = wrote-length (g .written) before out (g .wrote)
 
+  -- the assignment that comes next
+  pub at-hand : k < length d / 81 → Ending d k
+  at-hand h = ending d k (g .ahead) h (g .few) (g .opener h)
+
   pub at-within : at ≤ length out
   at-within = omega (arith, g .place, g .wrote .room, out-long)
 
@@ -275,7 +340,7 @@ module _ (d before out : List ℕ) (at k : ℕ) (g : Going d before out at k) wh
         g .all
         ∙ ap (λ (x : List ℕ). g .written ++ x)
         (ap bytesOf (b .same (sofar (gains (chunks k d)))) ∙ bytes-join (between k n d) _
-        ∙ ap₂ (λ (x : List ℕ) (y : Totals). x ++ (endOf d k t ++ bytesOf (behindEnd y (recordsFrom n d)))) (span-is k n d (omega (arith, b .more)) (b .most)) (block-more (gains (chunks k d)) (gains (chunks n d)) (t .totals) (b .one) (b .total))
+        ∙ ap₂ (λ (x : List ℕ) (y : Totals). x ++ (endOf d k t ++ bytesOf (behindEnd y (recordsFrom n d)))) (span-is k n d (omega (arith, b .more)) (b .most)) (block-more (gains (chunks k d)) (gains (chunks n d)) (t .totals) (omega (arith, b .single, ap (λ (x : AssignmentTotals). x .totals .assignments .0) (b .ended))) (b .total))
         ∙ sym (append-assoc (span k n d) (endOf d k t) (bytesOf left)))
 
     piece-length : length (span k n d ++ endOf d k t) ≡ 81 * n - 81 * k + 81

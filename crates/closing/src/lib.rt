@@ -7,14 +7,17 @@ ghost use lib.ListN.{length, drop};
 ghost use Rattle.choice.specs.Choice.{if_then_else_};
 ghost use Rattle.operations.specs.Closing.{opens, openings, closedFigures, weigh, closeOf, closedFile, closedBytes};
 ghost use Rattle.rules.specs.Codes.{serviceCode, codeFor, serviceFor};
+ghost use Rattle.rules.specs.Growth.{start};
 ghost use Rattle.rules.specs.Run.{recordsOf};
-ghost use Rattle.closing.specs.Weighed.{span, endOf, InDraft, CanClose, Weighed};
+ghost use Rattle.running.specs.Figured.{blocks};
+ghost use Rattle.summing.specs.Sums.{Holding};
+ghost use Rattle.closing.specs.Weighed.{span, endOf, InDraft, CanClose, LeftBy, Weighed};
 use dates::Date;
 use dates::Opening;
 use dates::ProcessDay;
 use dates::Window;
-use drafts::Ended;
 use figures::counts::Count;
+use figures::totals::AssignmentTotals;
 use figures::totals::Totals;
 use rules::Mode;
 use rules::Verdict;
@@ -65,20 +68,33 @@ fn closed_figures(t: Totals) -> Totals
     }
 }
 
-// What the draft itself gives, with the figures of the file to be written.
-fn weigh(w: Window, draft: &[u8]) -> Verdict
-    ensures { λ x. ⌜ x ≡ weigh w (now (draft .entry)) ⌝ }
+// What the draft itself gives, with the figures of the file to be written; those of its assignments are left in what is lent.
+fn weigh(w: Window, draft: &[u8], kept: &mut [u64]) -> Verdict
+    ensures { λ x. ⌜ (x ≡ weigh w (now (draft .entry))) × LeftBy (now (draft .entry)) (now (kept .exit)) x ⌝ }
 {
     if checking::bad_length(draft) {
         return checking::refuse(2);
     }
-    if 200000 < draft.len() / 81 + openings_in(draft) + 1 {
+    let count = draft.len() / 81;
+    if 200000 <= count {
         return checking::refuse(3);
     }
-    let mut kept = [0u64; 500];
-    match running::run_over(Mode::Draft, w, draft, &mut kept) {
-        Verdict::Refused(refusal) => Verdict::Refused(refusal),
-        Verdict::Accepted(t) => Verdict::Accepted(closed_figures(t)),
+    let mut keys = [0u64; 500];
+    match running::run_over(Mode::Draft, w, draft, &mut keys, kept) {
+        Verdict::Refused(refusal) => {
+            if 200000 < count + openings_in(draft) + 1 {
+                return checking::refuse(3);
+            }
+            Verdict::Refused(refusal)
+        }
+        Verdict::Accepted(t) => {
+            let figures = closed_figures(t);
+            let records = figures.records;
+            if 200000 < records.0 {
+                return checking::refuse(3);
+            }
+            Verdict::Accepted(figures)
+        }
     }
 }
 
@@ -93,16 +109,21 @@ fn service_in(r: &[u8]) -> u64
     4
 }
 
-// Puts an assignment, and the 88 that ends it, over the start of an output; answers how many bytes that is.
-fn put_assignment(out: &mut [u8], draft: &[u8], from: usize, ended: Ended) -> usize
-    requires { ⌜ InDraft (now draft) from (ended .next) × (81 * (ended .next) - 81 * from + 81 ≤ length (now out)) ⌝ }
-    ensures { λ n. ⌜ (n ≡ 81 * (ended .next) - 81 * from + 81) × (now (out .exit) ≡ (span from (ended .next) (now (draft .entry)) ++ endOf (now (draft .entry)) from (ended .totals)) ++ drop n (now (out .entry))) ⌝ }
+// Puts the records from one on to before another, an assignment, and the 88 that ends it over the start of an output; answers how many bytes that is.
+fn put_assignment(
+    out: &mut [u8],
+    draft: &[u8],
+    from: usize,
+    next: usize,
+    totals: AssignmentTotals,
+) -> usize
+    requires { ⌜ InDraft (now draft) from next × (81 * next - 81 * from + 81 ≤ length (now out)) ⌝ }
+    ensures { λ n. ⌜ (n ≡ 81 * next - 81 * from + 81) × (now (out .exit) ≡ (span from next (now (draft .entry)) ++ endOf (now (draft .entry)) from totals) ++ drop n (now (out .entry))) ⌝ }
 {
     let start = 81 * from;
-    let end = 81 * ended.next;
+    let end = 81 * next;
     let head = start + 81;
     let service = service_in(&draft[start..head]);
-    let totals = ended.totals;
     let figures = totals.totals;
     let size = end - start;
     writing::copy_to(out, &draft[start..end]);
@@ -110,19 +131,24 @@ fn put_assignment(out: &mut [u8], draft: &[u8], from: usize, ended: Ended) -> us
     size + 81
 }
 
-// Writes the file that a sound draft is closed to over the start of an output.
-fn write(draft: &[u8], figures: Totals, out: &mut [u8])
-    requires { ⌜ Weighed (now draft) figures × (length (closedFile (now draft)) ≤ length (now out)) ⌝ }
+// Writes the file that a sound draft is closed to over the start of an output, by the figures that the run left: no record is read again.
+fn write(draft: &[u8], figures: Totals, kept: &[u64], out: &mut [u8])
+    requires { ⌜ Weighed (now draft) figures × Holding (now kept) 0 (blocks (start .assignment) (recordsOf (now draft))) × (length (closedFile (now draft)) ≤ length (now out)) ⌝ }
     ensures { λ _. ⌜ now (out .exit) ≡ closedFile (now (draft .entry)) ++ drop (length (closedFile (now (draft .entry)))) (now (out .entry)) ⌝ }
 {
     let count = draft.len() / 81;
     writing::copy_to(out, &draft[0..81]);
     let mut at: usize = 81;
     let mut k: usize = 1;
+    let mut j: usize = 1;
     while k < count {
-        let ended = drafts::assignment_from(draft, k);
-        at += put_assignment(&mut out[at..], draft, k, ended);
-        k = ended.next;
+        let own = summing::figures_at(kept, j);
+        let totals = own.totals;
+        let records = totals.records;
+        let next = k + records.0 as usize;
+        at += put_assignment(&mut out[at..], draft, k, next, own.with_record());
+        k = next;
+        j += 1;
     }
     writing::put_end(&mut out[at..], 0, 89, figures, Date(0));
 }
@@ -134,14 +160,15 @@ pub fn close(day: ProcessDay, draft: &[u8], out: &mut [u8]) -> Verdict
     let Opening::Open(w) = day.window() else {
         return checking::refuse(1);
     };
-    match weigh(w, draft) {
+    let mut kept = [0u64; 2505];
+    match weigh(w, draft, &mut kept) {
         Verdict::Refused(refusal) => Verdict::Refused(refusal),
         Verdict::Accepted(t) => {
             let records = t.records;
             if out.len() < 81 * records.0 as usize {
                 return checking::refuse(19);
             }
-            write(draft, t, out);
+            write(draft, t, &kept, out);
             Verdict::Accepted(t)
         }
     }

@@ -6,26 +6,24 @@ use mathlib.Core.List.{List, [], _∷_, _++_, append-assoc}
 use mathlib.Core.Bool.{Bool, true, false, _&&_}
 use native.Mathlib.Omega.{arith}
 use native.Mathlib.Numerals.{add-one}
-use borrow.Author.Tests.{eqb-true, eq-eqb, ne-eqb, lt-ltb}
+use borrow.Author.Tests.{eqb-true, lt-ltb, ltb-true, ltb-false}
 use lib.Dec.{eqb, ltb}
 use lib.ListN.{length, take, drop, length-drop}
 use lib.Seq.{drop-drop, take-add}
 use Rattle.choice.specs.Choice.{if_then_else_}
 use Rattle.dates.specs.declared.Service.{Service}
-use Rattle.dates.specs.declared.Window.{Window}
-use Rattle.figures.specs.Totals.{_⊕_, oneRecord, oneAssignment, noneYet, _⊞_, undated, dated, Room}
+use Rattle.figures.specs.Totals.{_⊕_, oneRecord, oneAssignment, _⊞_, undated, dated}
 use Rattle.figures.specs.declared.totals.Totals.{Totals}
 use Rattle.figures.specs.declared.totals.AssignmentTotals.{AssignmentTotals}
-use Rattle.figures.proofs.Laws.{⊕-assoc, ⊕-none, noneYet-⊞}
+use Rattle.figures.proofs.Laws.{⊕-assoc, ⊕-none}
 use Rattle.laws.proofs.Sound.{gains-join}
-use Rattle.growth.specs.Bounds.{Bounded, Small}
 use Rattle.laws.specs.Meets.{gains, Meets}
 use Rattle.layout.specs.Rows.{AllHold}
 use Rattle.operations.specs.Ends.{endRecord, end88}
 use Rattle.operations.specs.Closing.{opens, behind88, endsBefore, withEnds, bytesOf}
 use Rattle.rules.specs.Codes.{serviceCode, recordCode, codeFor, serviceFor, kindOf}
 use Rattle.rules.specs.Growth.{gainFor, gain, turnFor, turn, keys, after, opened}
-use Rattle.rules.specs.Layouts.{tableFor, rows}
+use Rattle.rules.specs.Layouts.{rows}
 use Rattle.rules.specs.Payments.{dateIn, amountIn}
 use Rattle.rules.specs.Run.{chunks}
 use Rattle.rules.specs.declared.Assignment.{Assignment}
@@ -34,11 +32,12 @@ use Rattle.rules.specs.declared.Kind.the-variants.{R20}
 use Rattle.rules.specs.declared.Mode.the-variants.{Draft}
 use Rattle.rules.specs.declared.State.{State}
 use Rattle.rules.proofs.Codes.{twenty}
+use Rattle.running.specs.Figured.{blocks, figuresIn}
 use Rattle.running.proofs.Bounds.{small-next}
-use Rattle.running.proofs.Loop.{smaller}
-use Rattle.running.proofs.Records.{rest-next, rest-end, part-is, part-long}
-use Rattle.drafts.specs.Block.{recordsFrom, between, recordAt, state, brought, Growing, Ahead, behindEnd, Block}
-use Rattle.drafts.proofs.Within.{under, grows, growing, GrowsBy}
+use Rattle.running.proofs.Figures.{blocks-on, blocks-open, blocks-none}
+use Rattle.running.proofs.Records.{rest-next, rest-end}
+use Rattle.drafts.specs.Block.{recordsFrom, between, recordAt, state, brought, Ahead, behindEnd, Block}
+use Rattle.drafts.proofs.Within.{under, not-opening, grows, GrowsBy}
 
 -- ---- records one by one
 pub next-of : (d : List ℕ) (k : ℕ) → k < length d / 81 → recordsFrom k d ≡ recordAt k d ∷ recordsFrom (k + 1) d
@@ -108,6 +107,8 @@ pub record Under (d : List ℕ) (from j : ℕ) (t : AssignmentTotals) : Type 0 w
   pub totals : t ≡ ahead .assignment .totals
   pub service : ahead .assignment .service ≡ serviceFor (serviceCode (recordAt from d))
   pub one : t .totals .assignments .0 ≡ 1
+  pub records : j ≡ from + t .totals .records .0
+  pub left : figuresIn (recordsFrom from d) ≡ blocks (ahead .assignment) (recordsFrom j d)
   pub file : ahead .file ≡ gains (chunks from d) ⊕ t .totals
   pub same : (g : Totals) → behindEnd g (recordsFrom from d) ≡ between from j d ++ withEnds (state (g ⊕ t .totals) (ahead .assignment)) (recordsFrom j d)
 
@@ -136,24 +137,22 @@ module _ (d : List ℕ) (k : ℕ) (a : Ahead d k) (h : k < length d / 81) where
   unfolding step-on
   step-turned = refl
 
--- a record within opens nothing
-brought-none : (r : List ℕ) → brought r .totals .assignments .0 ≡ 0
+-- a record within opens nothing, and is one record
+brought-one : (r : List ℕ) → (brought r .totals .assignments .0 ≡ 0) × (brought r .totals .records .0 ≡ 1)
 unfolding brought
-brought-none r = go (eqb (recordCode r) 30) refl
+brought-one r = go (eqb (recordCode r) 30)
   where
-    go : (b : Bool) → eqb (recordCode r) 30 ≡ b → (if eqb (recordCode r) 30 then dated (amountIn r) (dateIn r) else undated oneRecord) .totals .assignments .0 ≡ 0
-    go true e = rw e
-    go false e = rw e
+    go : (b : Bool) → ((if b then dated (amountIn r) (dateIn r) else undated oneRecord) .totals .assignments .0 ≡ 0) × ((if b then dated (amountIn r) (dateIn r) else undated oneRecord) .totals .records .0 ≡ 1)
+    go true = (refl, refl)
+    go false = (refl, refl)
 
 -- behind the 20
-pub begun : (d : List ℕ) (from : ℕ) (t : AssignmentTotals) → Ahead d from → from < length d / 81 → length d / 81 ≤ 200000 → opens (recordAt from d) ≡ true → t ≡ noneYet ⊞ undated oneAssignment
-    → Under d from (from + 1) t
-unfolding behindEnd step-on
-begun d from t a h few o e =
+begun : (d : List ℕ) (from : ℕ) → Ahead d from → from < length d / 81 → length d / 81 ≤ 200000 → opens (recordAt from d) ≡ true → Under d from (from + 1) (undated oneAssignment)
+unfolding behindEnd step-on figuresIn
+begun d from a h few o =
     let r = recordAt from d in
     let k : kindOf r ≡ R20 = twenty (recordCode r) (eqb-true (recordCode r) 20 o) in
     let n = step-on d from a h in
-    let i : t ≡ undated oneAssignment = e ∙ noneYet-⊞ (undated oneAssignment) in
     let turned : n .assignment ≡ opened (serviceFor (serviceCode r)) = ap (λ (x : Kind). turnFor x r (a .assignment)) k in
     record {
       more = omega arith;
@@ -161,48 +160,44 @@ begun d from t a h few o e =
       few = few;
       ahead = n;
       within = ap (λ (x : Assignment). under (x .last)) turned;
-      totals = i ∙ sym (ap (λ (x : Assignment). x .totals) turned);
+      totals = sym (ap (λ (x : Assignment). x .totals) turned);
       service = ap (λ (x : Assignment). x .service) turned;
-      one = ap (λ (x : AssignmentTotals). x .totals .assignments .0) i;
-      file = ap (λ (x : Kind). a .file ⊕ gainFor x r) k ∙ ap₂ (λ (x : Totals) (y : AssignmentTotals). x ⊕ y .totals) (a .counted) (sym i);
+      one = refl;
+      records = refl;
+      left = ap figuresIn (next-of d from h) ∙ ap (λ (x : Assignment). blocks x (recordsFrom (from + 1) d)) (sym turned);
+      file = ap (λ (x : Kind). a .file ⊕ gainFor x r) k ∙ ap (λ (x : Totals). x ⊕ oneAssignment) (a .counted);
       same = λ g.
           ap (behindEnd g) (next-of d from h)
-          ∙ ap₂ (λ (x : AssignmentTotals) (y : Assignment). r ∷ withEnds (state (g ⊕ x .totals) y) (recordsFrom (from + 1) d)) (sym i) (sym turned)
-          ∙ ap (λ (x : List (List ℕ)). x ++ withEnds (state (g ⊕ t .totals) (n .assignment)) (recordsFrom (from + 1) d)) (sym (just-one from d));
+          ∙ ap (λ (y : Assignment). r ∷ withEnds (state (g ⊕ oneAssignment) y) (recordsFrom (from + 1) d)) (sym turned)
+          ∙ ap (λ (x : List (List ℕ)). x ++ withEnds (state (g ⊕ oneAssignment) (n .assignment)) (recordsFrom (from + 1) d)) (sym (just-one from d));
     }
 
 module _ (d : List ℕ) (from j : ℕ) (t : AssignmentTotals) (u : Under d from j t) where
-  -- what a record asks of the figures
-  pub bounded : Bounded 200000 (t .totals)
-  bounded = subst (λ (x : AssignmentTotals). Bounded 200000 (x .totals)) (sym (u .totals)) (smaller j 200000 _ (omega (arith, u .most, u .few)) (u .ahead .small) .assignment)
-
   module _ (h : j < length d / 81) (n : opens (recordAt j d) ≡ false) where
     grown-here : GrowsBy (kindOf (recordAt j d)) (recordAt j d) (u .ahead .assignment)
     grown-here = grows (u .ahead .window) (u .ahead .file) (u .ahead .kept) (u .ahead .assignment) (recordAt j d) (holds d j (u .ahead) h) (u .within) n
 
-    pub may-grow : Growing t (recordAt j d)
-    may-grow =
-        subst (λ (x : AssignmentTotals). Growing x (recordAt j d)) (sym (u .totals))
-        (growing (u .ahead .window) (u .ahead .file) (u .ahead .kept) (u .ahead .assignment) (recordAt j d) (holds d j (u .ahead) h) (u .within) n (subst (λ (x : AssignmentTotals). Bounded 200000 (x .totals)) (u .totals) bounded))
-
-    pub walk-on : (t′ : AssignmentTotals) → t′ ≡ t ⊞ brought (recordAt j d) → Under d from (j + 1) t′
+    walk-on : Under d from (j + 1) (t ⊞ brought (recordAt j d))
     unfolding step-on
-    walk-on t′ e =
+    walk-on =
         let r = recordAt j d in
+        let t′ = t ⊞ brought r in
         let a = u .ahead .assignment in
         let v = step-on d j (u .ahead) h in
         let g′ = grown-here in
         let i : (g : Totals) → (g ⊕ t .totals) ⊕ gain r ≡ g ⊕ t′ .totals =
-        λ g. ⊕-assoc g (t .totals) (gain r) ∙ ap (λ (x : Totals). g ⊕ (t .totals ⊕ x)) (g′ .file) ∙ ap (λ (x : AssignmentTotals). g ⊕ x .totals) (sym e) in
+        λ g. ⊕-assoc g (t .totals) (gain r) ∙ ap (λ (x : Totals). g ⊕ (t .totals ⊕ x)) (g′ .file) in
         record {
           more = omega (arith, u .more);
           most = omega arith;
           few = u .few;
           ahead = v;
           within = g′ .under;
-          totals = e ∙ ap (λ (x : AssignmentTotals). x ⊞ brought r) (u .totals) ∙ sym (g′ .totals);
+          totals = ap (λ (x : AssignmentTotals). x ⊞ brought r) (u .totals) ∙ sym (g′ .totals);
           service = g′ .service ∙ u .service;
-          one = omega (arith, u .one, ap (λ (x : AssignmentTotals). x .totals .assignments .0) e, brought-none (recordAt j d));
+          one = omega (arith, u .one, brought-one r .0);
+          records = omega (arith, u .records, brought-one r .1);
+          left = u .left ∙ ap (blocks a) (next-of d j h) ∙ blocks-on a r (recordsFrom (j + 1) d) (not-opening (recordCode r) n);
           file = ap (λ (x : Totals). x ⊕ gain r) (u .file) ∙ i (gains (chunks from d));
           same = λ g.
               u .same g
@@ -213,20 +208,26 @@ module _ (d : List ℕ) (from j : ℕ) (t : AssignmentTotals) (u : Under d from 
         }
 
   -- where the next assignment opens, or nothing is left
-  stops : (t′ : AssignmentTotals) → t′ ≡ t ⊞ undated oneRecord → (j < length d / 81 → opens (recordAt j d) ≡ true)
+  stops : (j < length d / 81 → opens (recordAt j d) ≡ true)
       → ((st : State) → 0 < st .file .assignments .0 → withEnds st (recordsFrom j d) ≡ end88 (behind88 st .assignment) ∷ behindEnd (behind88 st .file) (recordsFrom j d))
-      → Block d from j t′
-  stops t′ e o c =
+      → ((a : Assignment) → blocks a (recordsFrom j d) ≡ a .totals ∷ figuresIn (recordsFrom j d))
+      → Block d from j (t ⊞ undated oneRecord)
+  stops o c f =
       let a = u .ahead .assignment in
-      let i : t′ ≡ a .totals ⊞ undated oneRecord = e ∙ ap (λ (x : AssignmentTotals). x ⊞ undated oneRecord) (u .totals) in
-      let more-of : (g : Totals) → (g ⊕ t .totals) ⊕ oneRecord ≡ g ⊕ t′ .totals = λ g. ⊕-assoc g (t .totals) oneRecord ∙ ap (λ (x : AssignmentTotals). g ⊕ x .totals) (sym e) in
+      let t′ = t ⊞ undated oneRecord in
+      let i : t′ ≡ a .totals ⊞ undated oneRecord = ap (λ (x : AssignmentTotals). x ⊞ undated oneRecord) (u .totals) in
+      let more-of : (g : Totals) → (g ⊕ t .totals) ⊕ oneRecord ≡ g ⊕ t′ .totals = λ g. ⊕-assoc g (t .totals) oneRecord in
       let end : Service → AssignmentTotals → List ℕ = λ s x. endRecord (codeFor s) 88 (x .totals) (x .last) in
       record {
         more = u .more;
         most = u .most;
         ahead = u .ahead;
         opener = o;
-        one = omega (arith, u .one, ap (λ (x : AssignmentTotals). x .totals .assignments .0) e);
+        own = t;
+        left = u .left ∙ f a ∙ ap (λ (x : AssignmentTotals). x ∷ figuresIn (recordsFrom j d)) (sym (u .totals));
+        single = u .one;
+        next = u .records;
+        ended = refl;
         total = ap (λ (x : Totals). x ⊕ oneRecord) (sym (u .ahead .counted) ∙ u .file) ∙ more-of (gains (chunks from d));
         same = λ g.
             u .same g
@@ -235,36 +236,40 @@ module _ (d : List ℕ) (from j : ℕ) (t : AssignmentTotals) (u : Under d from 
             ∙ ap₂ (λ (x : List ℕ) (y : Totals). x ∷ behindEnd y (recordsFrom j d)) (ap₂ end (u .service) (sym i)) (more-of g));
       }
 
-  pub stops-at : (t′ : AssignmentTotals) → t′ ≡ t ⊞ undated oneRecord → j < length d / 81 → opens (recordAt j d) ≡ true → Block d from j t′
-  stops-at t′ e h o = stops t′ e (λ _. o) (λ st p. ap (withEnds st) (next-of d j h) ∙ closing st (recordAt j d) (recordsFrom (j + 1) d) p o ∙ ap (λ (x : List (List ℕ)). end88 (behind88 st .assignment) ∷ behindEnd (behind88 st .file) x) (sym (next-of d j h)))
+  stops-at : j < length d / 81 → opens (recordAt j d) ≡ true → Block d from j (t ⊞ undated oneRecord)
+  stops-at h o =
+      let r = recordAt j d in
+      let n = next-of d j h in
+      stops (λ _. o)
+      (λ st p. ap (withEnds st) n ∙ closing st r (recordsFrom (j + 1) d) p o ∙ ap (λ (x : List (List ℕ)). end88 (behind88 st .assignment) ∷ behindEnd (behind88 st .file) x) (sym n))
+      (λ a. ap (blocks a) n ∙ blocks-open a r (recordsFrom (j + 1) d) (twenty (recordCode r) (eqb-true (recordCode r) 20 o)) ∙ ap (λ (x : List (List ℕ)). a .totals ∷ figuresIn x) (sym n))
 
-  pub stops-end : (t′ : AssignmentTotals) → t′ ≡ t ⊞ undated oneRecord → length d / 81 ≤ j → Block d from j t′
-  stops-end t′ e h =
+  stops-end : length d / 81 ≤ j → Block d from j (t ⊞ undated oneRecord)
+  stops-end h =
       let n = none-left d j (omega (arith, u .most)) in
-      stops t′ e (λ x. absurd (omega arith)) (λ st p. ap (withEnds st) n ∙ closing-end st ∙ ap (λ (x : List (List ℕ)). end88 (behind88 st .assignment) ∷ behindEnd (behind88 st .file) x) (sym n))
+      stops (λ x. absurd (omega arith))
+      (λ st p. ap (withEnds st) n ∙ closing-end st ∙ ap (λ (x : List (List ℕ)). end88 (behind88 st .assignment) ∷ behindEnd (behind88 st .file) x) (sym n))
+      (λ a. ap (blocks a) n ∙ blocks-none a ∙ ap (λ (x : List (List ℕ)). a .totals ∷ figuresIn x) (sym n))
 
--- ---- as the code comes to it
-pub room-opening : (t : AssignmentTotals) → t ≡ noneYet → Room (t .totals) oneAssignment
-room-opening t e =
-    subst (λ (x : AssignmentTotals). Room (x .totals) oneAssignment) (sym e) (record { assignments = omega arith; transactions = omega arith; records = omega arith; sum = omega arith })
+-- ---- the assignment whose 20 stands behind the first k records
+pub record Ending (d : List ℕ) (k : ℕ) : Type 0 where
+  pub next : ℕ
+  pub totals : AssignmentTotals
+  pub block : Block d k next totals
 
-pub room-record : (d : List ℕ) (from j : ℕ) (t : AssignmentTotals) → Under d from j t → Room (t .totals) oneRecord
-room-record d from j t u =
-    let b = bounded d from j t u in
-    record { assignments = omega (arith, b .assignments); transactions = omega (arith, b .transactions); records = omega (arith, b .records); sum = omega (arith, b .sum) }
+-- with at most i records to come
+ending-from : (d : List ℕ) (from i j : ℕ) (t : AssignmentTotals) → Under d from j t → length d / 81 ≤ j + i → Ending d from
+ending-from d from zero j t u h = record { next = j; totals = t ⊞ undated oneRecord; block = stops-end d from j t u (omega (arith, h)) }
+ending-from d from (suc i) j t u h = go (ltb j (length d / 81)) (opens (recordAt j d)) refl refl (λ v. ending-from d from i (j + 1) (t ⊞ brought (recordAt j d)) v (omega (arith, h)))
+  where
+    go : (b o : Bool) → ltb j (length d / 81) ≡ b → opens (recordAt j d) ≡ o → (Under d from (j + 1) (t ⊞ brought (recordAt j d)) → Ending d from) → Ending d from
+    go false o e q on = record { next = j; totals = t ⊞ undated oneRecord; block = stops-end d from j t u (ltb-false j (length d / 81) e) }
+    go true true e q on = record { next = j; totals = t ⊞ undated oneRecord; block = stops-at d from j t u (ltb-true j (length d / 81) e) q }
+    go true false e q on = on (walk-on d from j t u (ltb-true j (length d / 81) e) q)
+
+pub ending : (d : List ℕ) (k : ℕ) → Ahead d k → k < length d / 81 → length d / 81 ≤ 200000 → opens (recordAt k d) ≡ true → Ending d k
+ending d k a h few o = ending-from d k (length d / 81) (k + 1) (undated oneAssignment) (begun d k a h few o) (omega arith)
 
 -- the part that is handed on, and the record
 abbrev pub handed : List ℕ → ℕ → List ℕ
 handed d k = take (81 * k + 81 - 81 * k) (drop (81 * k) d)
-
-pub opens-no : (d : List ℕ) (k n : ℕ) → n ≡ recordCode (handed d k) → (n ≡ 20 → ⊥) → opens (recordAt k d) ≡ false
-opens-no d k n e h = ne-eqb (recordCode (recordAt k d)) 20 (λ q. h (e ∙ ap recordCode (part-is d k) ∙ q))
-
-pub opens-yes : (d : List ℕ) (k n : ℕ) → n ≡ recordCode (handed d k) → n ≡ 20 → opens (recordAt k d) ≡ true
-opens-yes d k n e h = eq-eqb (recordCode (recordAt k d)) 20 (sym (e ∙ ap recordCode (part-is d k)) ∙ h)
-
-pub asks : (d : List ℕ) (from j : ℕ) (t : AssignmentTotals) (u : Under d from j t) → j < length d / 81 → opens (recordAt j d) ≡ false → (length (handed d j) ≡ 81) × Growing t (handed d j)
-asks d from j t u h n = subst (λ (x : List ℕ). (length x ≡ 81) × Growing t x) (sym (part-is d j)) (part-long d j (omega arith), may-grow d from j t u h n)
-
-pub walks-on : (d : List ℕ) (from j : ℕ) (t t′ : AssignmentTotals) (u : Under d from j t) → j < length d / 81 → opens (recordAt j d) ≡ false → t′ ≡ t ⊞ brought (handed d j) → Under d from (j + 1) t′
-walks-on d from j t t′ u h n e = walk-on d from j t u h n t′ (e ∙ ap (λ (x : List ℕ). t ⊞ brought x) (part-is d j))

@@ -1,40 +1,29 @@
 -- What a sound record within an assignment of a draft has, and what it adds.
 -- Assumes nothing.
-use Prim.Native.Nat.{ℕ, _+_, _≤_, _<_}
-use mathlib.Core.Path.{_≡_, refl, sym, ap, ap₂, subst, _∙_}
-use mathlib.Core.Logic.{_⊎_, inl, inr, ⊎-elim}
+use Prim.Native.Nat.{ℕ}
+use mathlib.Core.Path.{_≡_, refl, sym, ap, _∙_}
 use mathlib.Core.List.{List}
 use mathlib.Core.Bool.{Bool, true, false, not, _&&_, _||_, true≢false, false≢true}
-use native.Mathlib.Omega.{arith}
-use borrow.Author.Tests.{eq-eqb, ne-eqb}
+use borrow.Author.Tests.{eq-eqb}
 use lib.Dec.{eqb}
-use Rattle.choice.specs.Choice.{if_then_else_}
-use Rattle.dates.specs.Dates.{readDay}
-use Rattle.dates.specs.declared.Date.{Date}
 use Rattle.dates.specs.declared.Window.{Window}
-use Rattle.fields.specs.Bytes.{every, isDigit, part}
-use Rattle.fields.specs.Numbers.{value}
-use Rattle.figures.specs.Totals.{oneRecord, oneTransaction, _⊞_, undated, dated, Room}
-use Rattle.figures.specs.declared.amounts.Amount.{Amount}
+use Rattle.figures.specs.Totals.{_⊞_}
 use Rattle.figures.specs.declared.totals.Totals.{Totals}
-use Rattle.figures.specs.declared.totals.AssignmentTotals.{AssignmentTotals}
-use Rattle.growth.specs.Bounds.{Bounded}
+use Rattle.laws.proofs.Types.{code-is}
 use Rattle.layout.specs.Rows.{AllHold}
 use Rattle.order.proofs.Each.{eachBool, of-bool, eachKind, of-kind}
 use Rattle.order.proofs.Follow.{choice, choice-is}
 use Rattle.order.specs.Whole.{isRemittance}
 use Rattle.rules.specs.Codes.{recordCode, kindFor, kindOf, numberOfKind}
-use Rattle.rules.specs.Layouts.{tableFor, record30, rows}
-use Rattle.rules.specs.Growth.{gainFor, gain, turnFor, turn}
+use Rattle.rules.specs.Layouts.{rows}
+use Rattle.rules.specs.Growth.{gainFor, turnFor}
 use Rattle.rules.specs.Order.{mayFollow}
-use Rattle.rules.specs.Payments.{theDate, dateIn, amountIn}
 use Rattle.rules.specs.declared.Assignment.{Assignment}
 use Rattle.rules.specs.declared.Kind.{Kind}
 use Rattle.rules.specs.declared.Kind.the-variants.{R10, R20, R30, R31, R40, R49, R50, R88, R89, Other}
 use Rattle.rules.specs.declared.Mode.the-variants.{Draft}
-use Rattle.rules.proofs.Codes.{at-codes}
-use Rattle.running.proofs.Bounds.{pays}
-use Rattle.drafts.specs.Block.{brought, Growing}
+use Rattle.running.proofs.Keys.{twenty-code}
+use Rattle.drafts.specs.Block.{brought}
 
 -- behind a record of these types an assignment is under way
 abbrev pub under : Kind → Bool
@@ -108,30 +97,8 @@ comes-within : (a : Assignment) (k : Kind) → under (a .last) ≡ true → (k �
 unfolding fits
 comes-within a k u n h = then-within _ _ _ _ u (choice-is Draft a k ∙ h) (not-twenty k n) (fits-all k (a .last) (isRemittance (a .service)) (eqb (a .code) 3) (eqb (a .code) 4) (eqb (a .code) 16))
 
--- a record of one of the nine types has that type's code
-Coded : ℕ → Type 0
-Coded n = (kindFor n ≡ Other) ⊎ (n ≡ numberOfKind (kindFor n))
-
-coded : (n : ℕ) → Coded n
-unfolding kindFor Coded
-coded n =
-    at-codes Coded n (inr refl) (inr refl) (inr refl) (inr refl) (inr refl) (inr refl) (inr refl) (inr refl) (inr refl)
-    (λ a b c d e f g h i. inl (simp (a, b, c, d, e, f, g, h, i)))
-
 not-other : (k : Kind) → within k ≡ true → k ≡ Other → ⊥
 not-other k w e = false≢true (ap within (sym e) ∙ w)
-
-pub code-within : (n : ℕ) → within (kindFor n) ≡ true → n ≡ numberOfKind (kindFor n)
-unfolding Coded
-code-within n w = ⊎-elim (λ (e : kindFor n ≡ Other). absurd (not-other (kindFor n) w e)) (λ (e : n ≡ numberOfKind (kindFor n)). e) (coded n)
-
-pub kind-thirty : (n : ℕ) → n ≡ 30 → kindFor n ≡ R30
-unfolding kindFor
-kind-thirty n e = ap kindFor e
-
-pub twenty-code : (n : ℕ) → kindFor n ≡ R20 → n ≡ 20
-unfolding Coded
-twenty-code n e = ⊎-elim (λ (o : kindFor n ≡ Other). absurd (false≢true (ap isTwenty (sym o ∙ e)))) (λ (c : n ≡ numberOfKind (kindFor n)). c ∙ ap numberOfKind e) (coded n)
 
 pub not-opening : (n : ℕ) → eqb n 20 ≡ false → kindFor n ≡ R20 → ⊥
 not-opening n h e = true≢false (sym (eq-eqb n 20 (twenty-code n e)) ∙ h)
@@ -164,49 +131,4 @@ module _ (w : Window) (f : Totals) (ks : List ℕ) (a : Assignment) (r : List �
   pub grows : GrowsBy (kindOf r) r a
   grows =
       let i = comes-within a (kindOf r) u (not-opening (recordCode r) n) may in
-      grows-by (kindOf r) r a i (code-within (recordCode r) i)
-
-  thirty : recordCode r ≡ 30 → AllHold f ks r (record30 w a r)
-  unfolding AllHold
-  thirty e = subst (λ (k : Kind). AllHold f ks r (tableFor k w a r)) (kind-thirty (recordCode r) e) (h .1 .1)
-
-  pub growing : Bounded 200000 (a .totals .totals) → Growing (a .totals) r
-  unfolding AllHold
-  growing b =
-      record {
-        bounded = b;
-        amount = λ e. thirty e .1 .1 .1 .1 .1 .1 .1 .1 .1 .1 .1 .0;
-        date = λ e. thirty e .1 .1 .1 .1 .1 .1 .0;
-        sum = λ e. pays f ks w a r (thirty e) .own;
-      }
-
--- ---- the figures behind one more record, as the code comes to them
-pub has-digits : (s : List ℕ) → every isDigit s ≡ true → every isDigit s ≡ false → ⊥
-has-digits s h x = true≢false (sym h ∙ x)
-
-pub date-read : (r : List ℕ) (y : ℕ) (d : Date) → value (part 16 21 r) ≡ y → d ≡ theDate (readDay y) → d ≡ dateIn r
-date-read r y d q f = f ∙ ap (λ (z : ℕ). theDate (readDay z)) (sym q)
-
-module _ (t : AssignmentTotals) (r : List ℕ) (n : ℕ) (e : n ≡ recordCode r) where
-  pub is-other : (n ≡ 30 → ⊥) → t ⊞ undated oneRecord ≡ t ⊞ brought r
-  unfolding brought
-  is-other h = ap (λ (b : Bool). t ⊞ (if b then dated (amountIn r) (dateIn r) else undated oneRecord)) (sym (ne-eqb (recordCode r) 30 (λ q. h (e ∙ q))))
-
-  module _ (h : n ≡ 30) where
-    pub thirty-is : recordCode r ≡ 30
-    thirty-is = sym e ∙ h
-
-    pub takes : Growing t r → (x : Amount) (d : Date) → x ≡ amountIn r → Room (t .totals) (oneTransaction x d)
-    takes g x d q =
-        record {
-          assignments = omega (arith, g .bounded .assignments);
-          transactions = omega (arith, g .bounded .transactions);
-          records = omega (arith, g .bounded .records);
-          sum = omega (arith, g .sum thirty-is, ap (λ (y : Amount). y .0) q);
-        }
-
-    pub is-paid : (x : Amount) (d : Date) → x ≡ amountIn r → d ≡ dateIn r → t ⊞ dated x d ≡ t ⊞ brought r
-    unfolding brought
-    is-paid x d p q =
-        ap₂ (λ (u : Amount) (v : Date). t ⊞ dated u v) p q
-        ∙ ap (λ (b : Bool). t ⊞ (if b then dated (amountIn r) (dateIn r) else undated oneRecord)) (sym (eq-eqb (recordCode r) 30 thirty-is))
+      grows-by (kindOf r) r a i (code-is r (kindOf r) refl (not-other (kindOf r) i))

@@ -3,17 +3,15 @@
 use Prim.Native.Nat.{ℕ, _+_, _-_, _*_, _/_, _≤_, _<_}
 use mathlib.Core.Path.{_≡_}
 use mathlib.Core.List.{List, [], _∷_, _++_}
-use mathlib.Core.Bool.{Bool, true, false}
+use mathlib.Core.Bool.{true}
 use lib.Dec.{eqb}
 use lib.ListN.{length, take, drop}
 use Rattle.choice.specs.Choice.{if_then_else_}
 use Rattle.dates.specs.declared.Window.{Window}
-use Rattle.fields.specs.Bytes.{every, isDigit, part}
-use Rattle.figures.specs.Figures.{limitWide}
-use Rattle.figures.specs.Totals.{_⊕_, oneRecord, oneAssignment, undated, dated}
+use Rattle.figures.specs.Totals.{_⊕_, oneRecord, oneAssignment, _⊞_, undated, dated}
 use Rattle.figures.specs.declared.totals.Totals.{Totals}
 use Rattle.figures.specs.declared.totals.AssignmentTotals.{AssignmentTotals}
-use Rattle.growth.specs.Bounds.{Bounded, Small}
+use Rattle.growth.specs.Bounds.{Small}
 use Rattle.laws.specs.Meets.{gains, Meets}
 use Rattle.operations.specs.Ends.{endRecord, end89}
 use Rattle.operations.specs.Closing.{opens, withEnds}
@@ -22,10 +20,9 @@ use Rattle.rules.specs.Growth.{opened}
 use Rattle.rules.specs.Payments.{dateIn, amountIn}
 use Rattle.rules.specs.Run.{chunks}
 use Rattle.rules.specs.declared.Assignment.{Assignment}
-use Rattle.rules.specs.declared.Kind.{Kind}
-use Rattle.rules.specs.declared.Kind.the-variants.{R10, R20, R30, R31, R40, R49, R50, R88, R89, Other}
 use Rattle.rules.specs.declared.Mode.the-variants.{Draft}
 use Rattle.rules.specs.declared.State.{State}
+use Rattle.running.specs.Figured.{figuresIn}
 
 -- the records of a draft from the k-th on, and those from the k-th to before the n-th
 abbrev pub recordsFrom : ℕ → List ℕ → List (List ℕ)
@@ -45,13 +42,6 @@ state f a = record { file = f; assignment = a }
 unfoldable pub brought : List ℕ → AssignmentTotals
 brought r = if eqb (recordCode r) 30 then dated (amountIn r) (dateIn r) else undated oneRecord
 
--- figures that such a record can be added to: a 30 has its digits, and the sum takes its amount
-pub record Growing (t : AssignmentTotals) (r : List ℕ) : Type 0 where
-  pub bounded : Bounded 200000 (t .totals)
-  pub amount : recordCode r ≡ 30 → every isDigit (part 33 49 r) ≡ true
-  pub date : recordCode r ≡ 30 → every isDigit (part 16 21 r) ≡ true
-  pub sum : recordCode r ≡ 30 → t .totals .sum .0 + amountIn r .0 ≤ limitWide .0
-
 -- the records from the k-th on meet the rules of a draft, behind some state
 pub record Ahead (d : List ℕ) (k : ℕ) : Type 0 where
   pub window : Window
@@ -67,13 +57,18 @@ unfoldable pub behindEnd : Totals → List (List ℕ) → List (List ℕ)
 behindEnd g [] = end89 (g ⊕ oneRecord) ∷ []
 behindEnd g (r ∷ rs) = r ∷ withEnds (state (g ⊕ oneAssignment) (opened (serviceFor (serviceCode r)))) rs
 
--- the assignment that opens behind the first k records ends before the n-th, with the figures t
+-- the assignment that opens behind the first k records ends before the n-th, with the figures t when its 88 is counted
 pub record Block (d : List ℕ) (k n : ℕ) (t : AssignmentTotals) : Type 0 where
   pub more : k < n
   pub most : n ≤ length d / 81
   pub ahead : Ahead d n
   pub opener : n < length d / 81 → opens (recordAt n d) ≡ true
-  pub one : t .totals .assignments .0 ≡ 1
+  -- its own figures, before the 88 is counted: the run left them
+  pub own : AssignmentTotals
+  pub left : figuresIn (recordsFrom k d) ≡ own ∷ figuresIn (recordsFrom n d)
+  pub single : own .totals .assignments .0 ≡ 1
+  pub next : n ≡ k + own .totals .records .0
+  pub ended : t ≡ own ⊞ undated oneRecord
   pub total : gains (chunks n d) ⊕ oneRecord ≡ gains (chunks k d) ⊕ t .totals
   pub same : (g : Totals)
       → behindEnd g (recordsFrom k d) ≡ between k n d ++ (endRecord (codeFor (serviceFor (serviceCode (recordAt k d)))) 88 (t .totals) (t .last) ∷ behindEnd (g ⊕ t .totals) (recordsFrom n d))

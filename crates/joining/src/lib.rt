@@ -32,7 +32,8 @@ fn weigh_second(w: Window, first: &[u8], s: Totals, ours: &[u64], second: &[u8])
     ensures { λ x. ⌜ x ≡ secondOf w (now (first .entry)) s (now (second .entry)) ⌝ }
 {
     let mut theirs = [0u64; 500];
-    match checking::judge(w, second, &mut theirs) {
+    let mut figures = [0u64; 1];
+    match checking::judge(w, second, &mut theirs, &mut figures) {
         Verdict::Refused(refusal) => of_operand(2, refusal),
         Verdict::Accepted(t) => pairing::allowed(first, second, s, t, ours, &theirs),
     }
@@ -46,7 +47,8 @@ fn weigh(day: ProcessDay, first: &[u8], second: &[u8]) -> Verdict
         return checking::refuse(1);
     };
     let mut ours = [0u64; 500];
-    match checking::judge(w, first, &mut ours) {
+    let mut figures = [0u64; 1];
+    match checking::judge(w, first, &mut ours, &mut figures) {
         Verdict::Refused(refusal) => of_operand(1, refusal),
         Verdict::Accepted(s) => weigh_second(w, first, s, &ours, second),
     }

@@ -1,72 +1,52 @@
 -- What parting answers, in the order of its refusals, and what it leaves in both outputs.
 -- Assumes nothing.
-use Prim.Native.Nat.{ℕ, zero, suc, _+_, _-_, _*_, _/_, _≤_, _<_}
+use Prim.Native.Nat.{ℕ, _+_, _-_, _*_, _≤_, _<_}
 use mathlib.Core.Path.{_≡_, refl, sym, ap, ap₂, subst, _∙_}
-use mathlib.Core.List.{List, [], _∷_}
-use mathlib.Core.Bool.{Bool, true, false, _&&_, and-false}
+use mathlib.Core.List.{List}
+use mathlib.Core.Bool.{Bool, _&&_, and-false}
 use native.Mathlib.Omega.{arith}
 use borrow.Author.Tests.{le-leb, lt-leb, lt-ltb, le-ltb}
 use lib.Dec.{leb, ltb}
-use lib.ListN.{length, take, drop, length-take, length-drop}
+use lib.ListN.{length, take, length-take}
 use Rattle.choice.specs.Choice.{if_then_else_}
 use Rattle.dates.specs.declared.ProcessDay.{ProcessDay}
-use Rattle.dates.specs.declared.Window.{Window}
-use Rattle.figures.specs.Totals.{oneRecord}
 use Rattle.figures.specs.declared.totals.Totals.{Totals}
-use Rattle.laws.specs.Meets.{Meets}
-use Rattle.laws.specs.View.{headed, Good}
 use Rattle.laws.proofs.Bytes.{bytes-length}
-use Rattle.laws.proofs.Frame.{fitted}
 use Rattle.laws.proofs.Made.{file-body, body-records}
 use Rattle.laws.proofs.Slices.{bodyIn, body-is, long-enough}
 use Rattle.laws.proofs.View.{viewed}
-use Rattle.layout.specs.Rows.{AllHold}
 use Rattle.operations.specs.Joining.{assignmentsOf}
 use Rattle.operations.specs.Parting.{ofCheck, notParted, firstPart, secondPart, partOf, lentParted, partedFirst, partedSecond}
 use Rattle.operations.specs.declared.Parting.{Parting}
 use Rattle.operations.specs.declared.Parting.the-variants.{Parted, NotParted}
-use Rattle.rules.specs.Codes.{recordCode, kindOf}
-use Rattle.rules.specs.Growth.{gain, turn, keys}
-use Rattle.rules.specs.Layouts.{tableFor, rows, record30}
+use Rattle.rules.specs.Growth.{gains, start}
 use Rattle.rules.specs.Run.{recordsOf, checkOf}
-use Rattle.rules.specs.declared.Assignment.{Assignment}
-use Rattle.rules.specs.declared.Kind.{Kind}
-use Rattle.rules.specs.declared.Mode.{Mode}
-use Rattle.rules.specs.declared.Mode.the-variants.{File}
 use Rattle.rules.specs.declared.Refusal.{Refusal}
 use Rattle.rules.specs.declared.Verdict.{Verdict}
 use Rattle.rules.specs.declared.Verdict.the-variants.{Accepted, Refused}
-use Rattle.drafts.proofs.Within.{kind-thirty}
-use Rattle.summing.specs.Sums.{Readable, AllReadable, Summable}
-use Rattle.parting.specs.Halves.{Divisible, firstHalf, secondHalf, divided}
-
--- ---- records that meet the rules can be read again
-readable : (m : Mode) (w : Window) (f : Totals) (ks : List ℕ) (a : Assignment) (r : List ℕ) → AllHold f ks r (rows m w a r) → Readable r
-unfolding AllHold
-readable m w f ks a r h = record { amount = λ e. thirty e .1 .1 .1 .1 .1 .1 .1 .1 .1 .1 .1 .0; date = λ e. thirty e .1 .1 .1 .1 .1 .1 .0 }
-  where
-    thirty : recordCode r ≡ 30 → AllHold f ks r (record30 w a r)
-    thirty e = subst (λ (k : Kind). AllHold f ks r (tableFor k w a r)) (kind-thirty (recordCode r) e) (h .1 .1)
-
-all-readable : (m : Mode) (w : Window) (f : Totals) (ks : List ℕ) (a : Assignment) (rs : List (List ℕ)) → Meets m w f ks a rs → AllReadable rs
-unfolding Meets AllReadable
-all-readable m w f ks a [] h = tt
-all-readable m w f ks a (r ∷ rs) h = (readable m w f ks a r (h .0), all-readable m w _ (_) (turn r a) rs (h .1))
+use Rattle.running.specs.Figured.{blocks}
+use Rattle.running.specs.Kept.{Left, Roomy}
+use Rattle.summing.specs.Sums.{Holding}
+use Rattle.summing.proofs.Held.{held}
+use Rattle.parting.specs.Halves.{Shares, Divisible, firstHalf, secondHalf, divided}
+use Rattle.parting.proofs.Shared.{shares}
 
 -- ---- the assignments of an accepted file
 module _ (day : ProcessDay) (b : List ℕ) (t : Totals) (e : checkOf day b ≡ Accepted t) where
-  pub divisible : Divisible (take 81 b) (bodyIn b)
-  divisible =
+  pub divisible : (keys kept : List ℕ) (v : Verdict) → v ≡ Accepted t → Left b keys kept v → Roomy kept → (k : ℕ) → (k ≡ 0 → ⊥) → k < t .assignments .0 → Divisible (take 81 b) (bodyIn b) kept k (t .assignments .0)
+  divisible keys kept x q left room k n h =
       let v = viewed day b t e in
       let g = v .good in
       let i : recordsOf (bodyIn b) ≡ v .body = ap recordsOf (body-is b) ∙ ap (λ (x : List ℕ). recordsOf (assignmentsOf x)) (v .bytes) ∙ body-records (v .window) (v .head) (v .body) g in
       let l : length (bodyIn b) ≡ 81 * length (v .body) =
       ap length (body-is b ∙ ap assignmentsOf (v .bytes) ∙ file-body (v .window) (v .head) (v .body) g) ∙ bytes-length (v .body) (g .sized) in
-      let s = fitted File (v .window) oneRecord [] headed (v .body) (omega arith) (omega arith) (g .meets) in
+      let a : t .assignments .0 ≡ gains (v .body) .assignments .0 = ap (λ (x : Totals). x .assignments .0) (v .figures) ∙ omega arith in
+      let hold = subst (λ (rs : List (List ℕ)). Holding kept 0 (blocks (start .assignment) rs)) (v .is) (held kept (5 * (t .assignments .0 + 1)) _ (left .figured t q room)) in
       record {
         ten = length-take 81 b ∙ omega (arith, long-enough day b t e);
         whole = omega (arith, l);
-        summable = subst Summable (sym i) (record { each = all-readable File (v .window) oneRecord [] headed (v .body) (g .meets); few = omega (arith, g .few); sum = omega (arith, s .sums) });
+        few = omega (arith, l, g .few);
+        shares = subst (Shares kept k (t .assignments .0)) (sym i) (shares (v .window) (v .head) (v .body) g k (t .assignments .0) (omega (arith, n)) h a kept hold);
       }
 
 -- ---- the answer, and both outputs behind it

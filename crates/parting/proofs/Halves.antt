@@ -3,38 +3,34 @@
 use Prim.Native.Nat.{ℕ, zero, suc, _+_, _-_, _*_, _/_, _≤_, _<_}
 use mathlib.Core.Path.{_≡_, refl, sym, ap, ap₂, subst, _∙_}
 use mathlib.Core.List.{List, [], _∷_, _++_, append-nil}
-use mathlib.Core.Bool.{Bool, true, false, _&&_, and-false}
+use mathlib.Core.Bool.{Bool, _&&_, and-false}
 use native.Mathlib.Omega.{arith}
-use borrow.Author.Tests.{le-leb, lt-leb, ne-eqb}
-use lib.Dec.{eqb, leb}
+use borrow.Author.Tests.{le-leb, lt-leb}
+use lib.Dec.{leb}
 use lib.ListN.{length, take, drop, length-append, length-take, length-drop}
-use lib.Seq.{take-all, take-length, drop-drop}
+use lib.Seq.{length-take-le, take-all, drop-drop}
 use Rattle.choice.specs.Choice.{if_then_else_}
 use Rattle.dates.specs.Dates.{date}
 use Rattle.figures.specs.Totals.{none, _⊕_, oneRecord, Room}
 use Rattle.figures.specs.declared.totals.Totals.{Totals}
-use Rattle.figures.proofs.Laws.{none-⊕}
+use Rattle.figures.proofs.Laws.{⊕-assoc, none-⊕}
 use Rattle.growth.specs.Bounds.{Bounded}
 use Rattle.laws.proofs.Bytes.{record-count}
+use Rattle.laws.proofs.EndsPut.{gains-records}
 use Rattle.laws.proofs.Made.{bytes-join}
 use Rattle.operations.specs.Ends.{end89}
 use Rattle.operations.specs.Closing.{bytesOf}
 use Rattle.operations.specs.Parting.{through, figuresOf, made, notParted, lentParted}
 use Rattle.operations.specs.declared.Parting.{Parting}
 use Rattle.operations.specs.declared.Parting.the-variants.{Parted}
-use Rattle.rules.specs.Codes.{recordCode}
 use Rattle.rules.specs.Growth.{gains}
 use Rattle.rules.specs.Run.{chunks, recordsOf}
-use Rattle.summing.specs.Sums.{Readable, AllReadable, Summable}
-use Rattle.summing.proofs.Adds.{first-cuts}
+use Rattle.summing.specs.Sums.{summed}
 use Rattle.writing.proofs.Wrote.{tail-part, end-length}
 use Rattle.drafts.proofs.Walk.{laid}
 use Rattle.parting.specs.Halves.{Divisible, firstHalf, secondHalf, divided}
 
 -- ---- figures with both ends
-bounded-room : (t : Totals) → Bounded 200000 t → Room oneRecord t
-bounded-room t b = record { assignments = omega (arith, b .assignments); transactions = omega (arith, b .transactions); records = omega (arith, b .records); sum = omega (arith, b .sum) }
-
 module _ (t : Totals) (b : Bounded 200000 t) where
   pub room-ten : (x : Totals) → x ≡ none → Room x oneRecord
   room-ten x e = subst (λ (y : Totals). Room y oneRecord) (sym e) (record { assignments = omega arith; transactions = omega arith; records = omega arith; sum = omega arith })
@@ -43,14 +39,22 @@ module _ (t : Totals) (b : Bounded 200000 t) where
   one-ten x y e q = q ∙ ap (λ (z : Totals). z ⊕ oneRecord) e ∙ none-⊕ oneRecord
 
   pub room-body : (y : Totals) → y ≡ oneRecord → Room y t
-  room-body y e = subst (λ (z : Totals). Room z t) (sym e) (bounded-room t b)
+  room-body y e =
+      subst (λ (z : Totals). Room z t) (sym e)
+      (record { assignments = omega (arith, b .assignments); transactions = omega (arith, b .transactions); records = omega (arith, b .records); sum = omega (arith, b .sum) })
 
   pub room-end : (y : Totals) → y ≡ oneRecord ⊕ t → Room y oneRecord
   room-end y e =
       subst (λ (z : Totals). Room z oneRecord) (sym e)
       (record { assignments = omega (arith, b .assignments); transactions = omega (arith, b .transactions); records = omega (arith, b .records); sum = omega (arith, b .sum) })
 
--- ---- records and bytes behind a boundary
+-- ---- records and bytes before and behind a boundary
+first-cuts : (j n : ℕ) (b : List ℕ) → j ≤ n → take j (chunks n b) ≡ chunks j b
+unfolding chunks
+first-cuts zero n b h = refl
+first-cuts (suc j) zero b h = absurd (omega arith)
+first-cuts (suc j) (suc n) b h = ap (λ (x : List (List ℕ)). take 81 b ∷ x) (first-cuts j n (drop 81 b) (omega arith))
+
 last-cuts : (p n : ℕ) (b : List ℕ) → p ≤ n → drop p (chunks n b) ≡ chunks (n - p) (drop (81 * p) b)
 unfolding chunks
 last-cuts zero n b h = let e : n ≡ n - 0 = omega arith in ap (λ (x : ℕ). chunks x b) e
@@ -65,40 +69,20 @@ made-bytes : (head : List ℕ) (body : List (List ℕ)) → bytesOf (made head b
 unfolding bytesOf made
 made-bytes head body = ap (λ (x : List ℕ). head ++ x) (bytes-join body (end89 (figuresOf body) ∷ []) ∙ ap (λ (x : List ℕ). bytesOf body ++ x) (append-nil (end89 (figuresOf body))))
 
--- a boundary that lies behind every record
-all-through : (rs : List (List ℕ)) (k : ℕ) → length rs < k → through k rs ≡ length rs
-unfolding through
-all-through [] k h = refl
-all-through (r ∷ rs) k h =
-    let e : eqb k 0 ≡ false = ne-eqb k 0 (λ z. omega arith) in
-    rw e (go (eqb (recordCode r) 88) (all-through rs (k - 1) (omega arith)) (all-through rs k (omega arith)))
-  where
-    go : (b : Bool) → through (k - 1) rs ≡ length rs → through k rs ≡ length rs → 1 + through (if b then k - 1 else k) rs ≡ suc (length rs)
-    go true i j = omega (arith, i)
-    go false i j = omega (arith, j)
+-- the boundary, from the figures of what stands before it
+module _ (head body kept : List ℕ) (k all : ℕ) (d : Divisible head body kept k all) (t : Totals) (e : t ≡ summed kept 1 (k + 1 - 1)) where
+  boundary : t .records .0 ≡ through k (recordsOf body)
+  boundary =
+      let n = through k (recordsOf body) in
+      ap (λ (x : Totals). x .records .0) (e ∙ d .shares .first) ∙ gains-records (take n (recordsOf body)) ∙ length-take-le n (recordsOf body) (d .shares .within)
 
--- records behind a boundary can be summed up too
-readable-behind : (p : ℕ) (rs : List (List ℕ)) → AllReadable rs → AllReadable (drop p rs)
-unfolding AllReadable
-readable-behind zero rs h = h
-readable-behind (suc p) [] h = h
-readable-behind (suc p) (r ∷ rs) h = readable-behind p rs (h .1)
+  pub cut-here : (t .records .0 ≡ through k (recordsOf body)) × (t .records .0 ≤ length body / 81) × (t ≡ gains (take (t .records .0) (recordsOf body)))
+  cut-here = (boundary, omega (arith, boundary, d .shares .within, record-count body), e ∙ d .shares .first ∙ ap (λ (n : ℕ). gains (take n (recordsOf body))) (sym boundary))
 
-sum-behind : (p : ℕ) (rs : List (List ℕ)) → gains (drop p rs) .sum .0 ≤ gains rs .sum .0
-unfolding gains
-sum-behind zero rs = omega arith
-sum-behind (suc p) [] = omega arith
-sum-behind (suc p) (r ∷ rs) = omega (arith, sum-behind p rs)
-
-module _ (head body : List ℕ) (k : ℕ) (d : Divisible head body) (p : ℕ) (e : p ≡ through k (recordsOf body)) (m : p ≤ length body / 81) where
+module _ (head body kept : List ℕ) (k all : ℕ) (d : Divisible head body kept k all) (p : ℕ) (e : p ≡ through k (recordsOf body)) (m : p ≤ length body / 81) where
   -- the assignments before the boundary, and those behind it
   front : bytesOf (take p (recordsOf body)) ≡ take (81 * p) body
   front = ap bytesOf (first-cuts p (length body / 81) body m) ∙ laid p body (omega (arith, d .whole))
-
-  back : drop p (recordsOf body) ≡ recordsOf (drop (81 * p) body)
-  back =
-      let l : length body / 81 - p ≡ length (drop (81 * p) body) / 81 = rw length-drop (omega (arith, d .whole)) in
-      last-cuts p (length body / 81) body m ∙ ap (λ (x : ℕ). chunks x (drop (81 * p) body)) l
 
   back-bytes : bytesOf (drop p (recordsOf body)) ≡ drop (81 * p) body
   back-bytes =
@@ -111,18 +95,6 @@ module _ (head body : List ℕ) (k : ℕ) (d : Divisible head body) (p : ℕ) (e
 
   rest-is : restOf ≡ drop (81 * p) body
   rest-is = tail-part (81 * p) body
-
-  pub rest-summable : Summable (recordsOf restOf)
-  rest-summable =
-      let s = d .summable in
-      subst Summable (back ∙ ap recordsOf (sym rest-is))
-      (record { each = readable-behind p (recordsOf body) (s .each); few = rw length-drop (omega (arith, s .few)); sum = omega (arith, sum-behind p (recordsOf body), s .sum) })
-
-  pub rest-figures : (q : ℕ) (t : Totals) → q ≡ through 200001 (recordsOf restOf) → t ≡ gains (take q (recordsOf restOf)) → t ≡ gains (drop p (recordsOf body))
-  rest-figures q t f g =
-      let r = recordsOf restOf in
-      let i : q ≡ length r = f ∙ all-through r 200001 (omega (arith, rest-summable .few)) in
-      g ∙ ap (λ (x : ℕ). gains (take x r)) i ∙ ap gains (take-length r) ∙ ap (λ (x : List ℕ). gains (recordsOf x)) rest-is ∙ ap gains (sym back)
 
   -- each part, from the figures of its assignments
   pub first-is : (t f : Totals) → t ≡ gains (take p (recordsOf body)) → f ≡ (oneRecord ⊕ t) ⊕ oneRecord → head ++ (take (81 * p) body ++ end89 f) ≡ firstHalf head body k
@@ -192,12 +164,15 @@ module _ (head body : List ℕ) (k : ℕ) (d : Divisible head body) (p : ℕ) (e
       unfolding lentParted
       over w v before after n i l q = q ∙ ap₂ (λ (x : List ℕ) (y : ℕ). x ++ drop y before) i (sym l)
 
-      pub parts : (t u f o : Totals) (q : ℕ) (one two : List ℕ) → t ≡ gains (take p (recordsOf body)) → f ≡ (oneRecord ⊕ t) ⊕ oneRecord
-          → q ≡ through 200001 (recordsOf restOf) → u ≡ gains (take q (recordsOf restOf)) → o ≡ (oneRecord ⊕ u) ⊕ oneRecord
+      pub parts : (t u f o : Totals) (one two : List ℕ) → t ≡ gains (take p (recordsOf body)) → f ≡ (oneRecord ⊕ t) ⊕ oneRecord
+          → u ≡ summed kept (k + 1) (all + 1 - (k + 1)) → o ≡ oneRecord ⊕ u
           → one ≡ (head ++ (take (81 * p) body ++ end89 f)) ++ drop (length head + length (take (81 * p) body) + 81) first
           → two ≡ (head ++ (restOf ++ end89 o)) ++ drop (length head + length restOf + 81) second → Divides Parted one two
-      parts t u f o q one two a b c i j x y = (
-        sym both,
-        over _ (firstHalf head body k) first one (length head + length (take (81 * p) body) + 81) (first-is t f a b) (omega (arith, first-long, d .ten, front-long)) x,
-        over _ (secondHalf head body k) second two (length head + length restOf + 81) (second-is u o (rest-figures q u c i) j) (omega (arith, second-long, d .ten, rest-long)) y,
-      )
+      parts t u f o one two a b c j x y =
+          let g = gains (drop p (recordsOf body)) in
+          let q : o ≡ (oneRecord ⊕ g) ⊕ oneRecord =
+          j ∙ ap (λ (z : Totals). oneRecord ⊕ z) (c ∙ d .shares .others ∙ ap (λ (n : ℕ). gains (drop n (recordsOf body)) ⊕ oneRecord) (sym e)) ∙ sym (⊕-assoc oneRecord g oneRecord) in (
+            sym both,
+            over _ (firstHalf head body k) first one (length head + length (take (81 * p) body) + 81) (first-is t f a b) (omega (arith, first-long, d .ten, front-long)) x,
+            over _ (secondHalf head body k) second two (length head + length restOf + 81) (second-is g o refl q) (omega (arith, second-long, d .ten, rest-long)) y,
+          )

@@ -26,21 +26,39 @@ fn refuse(number: u8) -> Parting
     })
 }
 
-// The figures of assignments with a record 10 before them and an 89 behind them.
+// Figures with a record 10 before them.
+fn with_head(t: Totals) -> Totals
+    requires { ⌜ Bounded 200000 t ⌝ }
+    ensures { λ x. ⌜ x ≡ oneRecord ⊕ t ⌝ }
+{
+    Totals::none().with_record().plus(t)
+}
+
+// And with an 89 behind them.
 fn with_ends(t: Totals) -> Totals
     requires { ⌜ Bounded 200000 t ⌝ }
     ensures { λ x. ⌜ x ≡ (oneRecord ⊕ t) ⊕ oneRecord ⌝ }
 {
-    Totals::none().with_record().plus(t).with_record()
+    with_head(t).with_record()
 }
 
-// Parts the assignments behind the k-th: 19 if either output is too short, and then neither is written.
-fn divide(head: &[u8], body: &[u8], k: u64, first: &mut [u8], second: &mut [u8]) -> Parting
-    requires { ⌜ Divisible (now head) (now body) ⌝ }
+// Parts the assignments behind the k-th of all, by the figures that the run left: 19 if either output is too short, and then neither is written.
+// The last assignment's figures count the file's 89 too, which the second part's 89 takes the place of.
+fn divide(
+    head: &[u8],
+    body: &[u8],
+    kept: &[u64],
+    k: usize,
+    all: usize,
+    first: &mut [u8],
+    second: &mut [u8],
+) -> Parting
+    requires { ⌜ Divisible (now head) (now body) (now kept) k all ⌝ }
     ensures { λ x. ⌜ (x ≡ divided (now (head .entry)) (now (body .entry)) k (length (now (first .entry))) (length (now (second .entry)))) × (now (first .exit) ≡ lentParted x (firstHalf (now (head .entry)) (now (body .entry)) k) (now (first .entry))) × (now (second .exit) ≡ lentParted x (secondHalf (now (head .entry)) (now (body .entry)) k) (now (second .entry))) ⌝ }
 {
-    let cut = summing::first_of(body, k);
-    let at = 81 * cut.records;
+    let front = summing::sum_of(kept, 1, k + 1);
+    let records = front.records;
+    let at = 81 * records.0 as usize;
     let len = body.len();
     if first.len() < at + 162 {
         return refuse(19);
@@ -48,10 +66,9 @@ fn divide(head: &[u8], body: &[u8], k: u64, first: &mut [u8], second: &mut [u8])
     if second.len() < len - at + 162 {
         return refuse(19);
     }
-    let rest = &body[at..len];
-    let others = summing::first_of(rest, 200001);
-    writing::put_file(first, head, &body[..at], with_ends(cut.totals));
-    writing::put_file(second, head, rest, with_ends(others.totals));
+    let back = summing::sum_of(kept, k + 1, all + 1);
+    writing::put_file(first, head, &body[..at], with_ends(front));
+    writing::put_file(second, head, &body[at..len], with_head(back));
     Parting::Parted
 }
 
@@ -59,7 +76,9 @@ fn divide(head: &[u8], body: &[u8], k: u64, first: &mut [u8], second: &mut [u8])
 pub fn part(day: ProcessDay, file: &[u8], k: u64, first: &mut [u8], second: &mut [u8]) -> Parting
     ensures { λ x. ⌜ (x ≡ partOf day (now (file .entry)) k (length (now (first .entry))) (length (now (second .entry)))) × (now (first .exit) ≡ partedFirst day (now (file .entry)) k (now (first .entry)) (now (second .entry))) × (now (second .exit) ≡ partedSecond day (now (file .entry)) k (now (first .entry)) (now (second .entry))) ⌝ }
 {
-    match checking::check(day, file) {
+    let mut keys = [0u64; 500];
+    let mut kept = [0u64; 2505];
+    match checking::check_into(day, file, &mut keys, &mut kept) {
         Verdict::Refused(refusal) => Parting::NotParted(refusal),
         Verdict::Accepted(t) => {
             let assignments = t.assignments;
@@ -69,8 +88,17 @@ pub fn part(day: ProcessDay, file: &[u8], k: u64, first: &mut [u8], second: &mut
             if assignments.0 as u64 <= k {
                 return refuse(21);
             }
+            let all = assignments.0 as usize;
             let end = file.len() - 81;
-            divide(&file[0..81], &file[81..end], k, first, second)
+            divide(
+                &file[0..81],
+                &file[81..end],
+                &kept,
+                k as usize,
+                all,
+                first,
+                second,
+            )
         }
     }
 }

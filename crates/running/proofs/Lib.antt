@@ -1,5 +1,6 @@
 pub mod Steps
 pub mod Keys
+pub mod Figures
 pub mod Bounds
 pub mod Records
 pub mod Loop

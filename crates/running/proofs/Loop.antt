@@ -1,7 +1,7 @@
 -- The loop over the records: what holds behind k of them, at the start, from one to the next, and at the end.
 -- Assumes nothing.
 use Prim.Native.Nat.{ℕ, zero, suc, _+_, _-_, _*_, _/_, _≤_, _<_}
-use mathlib.Core.Path.{_≡_, refl, sym, ap, subst, _∙_}
+use mathlib.Core.Path.{_≡_, refl, sym, ap, ap₂, subst, _∙_}
 use mathlib.Core.Logic.{_⊎_, inl, inr, ⊎-elim}
 use mathlib.Core.List.{List, [], _∷_, _++_, append-assoc, append-nil}
 use mathlib.Core.Bool.{Bool, true, false, false≢true}
@@ -28,9 +28,11 @@ use Rattle.rules.specs.declared.Verdict.{Verdict}
 use Rattle.rules.specs.declared.Verdict.the-variants.{Accepted}
 use Rattle.choice.specs.Choice.{if_then_else_}
 use Rattle.figures.specs.declared.totals.Totals.{Totals}
-use Rattle.running.specs.Kept.{Keyed, Kept}
+use Rattle.running.specs.Figured.{slots, allSlots, blocks}
+use Rattle.running.specs.Kept.{Keyed, Kept, Noted, Roomy}
 use Rattle.running.proofs.Steps.{went-on, run-next, run-stop, table-holds, table-of, may-stand, never-other, Opens, opens}
 use Rattle.running.proofs.Bounds.{small-next}
+use Rattle.running.proofs.Figures.{figures-next, figures-last}
 use Rattle.running.proofs.Records.{rest, rest-next, rest-end, rest-start, part-long}
 
 -- only a record 20 adds an assignment and a key
@@ -86,7 +88,7 @@ pub not-accepted : (n i k : ℕ) (x : Verdict) (t : Totals) → x ≡ refused n 
 not-accepted n i k x t e h = let z : _≡_ {A = ℕ} 0 1 = cc in omega arith
 
 -- behind k of n records of b
-pub record At (m : Mode) (w : Window) (b : List ℕ) (n : ℕ) (st : State) (kept : List ℕ) (used k : ℕ) : Type 0 where
+pub record At (m : Mode) (w : Window) (b : List ℕ) (n : ℕ) (st : State) (kept figures : List ℕ) (used k : ℕ) : Type 0 where
   pub within : k ≤ n
   pub few : n ≤ 200000
   pub size : 81 * n ≤ length b
@@ -96,6 +98,7 @@ pub record At (m : Mode) (w : Window) (b : List ℕ) (n : ℕ) (st : State) (kep
   pub small : Small k st
   pub same : run m w 0 start [] (chunks n b) ≡ run m w k st (take used kept) (rest b n k)
   pub found : allKeys (chunks n b) ≡ take used kept ++ allKeys (rest b n k)
+  pub figured : Roomy figures → allSlots (blocks (start .assignment) (chunks n b)) ≡ take (5 * used) figures ++ allSlots (blocks (st .assignment) (rest b n k))
 
 pub small-start : Small 0 start
 small-start =
@@ -118,8 +121,8 @@ smaller k n st h s =
     }
 
 module _ (m : Mode) (w : Window) (b : List ℕ) (n : ℕ) where
-  pub at-start : (st : State) (kept : List ℕ) → n ≤ 200000 → 81 * n ≤ length b → st ≡ start → length kept ≡ 500 → At m w b n st kept 0 0
-  at-start st kept f l e five =
+  pub at-start : (st : State) (kept figures : List ℕ) → n ≤ 200000 → 81 * n ≤ length b → st ≡ start → length kept ≡ 500 → At m w b n st kept figures 0 0
+  at-start st kept figures f l e five =
       record {
         within = omega arith;
         few = f;
@@ -130,9 +133,10 @@ module _ (m : Mode) (w : Window) (b : List ℕ) (n : ℕ) where
         small = subst (Small 0) (sym e) small-start;
         same = ap (run m w 0 start []) (sym (rest-start b n)) ∙ ap (λ (x : State). run m w 0 x [] (rest b n 0)) (sym e);
         found = ap allKeys (sym (rest-start b n));
+        figured = λ _. ap₂ (λ (x : State) (rs : List (List ℕ)). allSlots (blocks (x .assignment) rs)) (sym e) (sym (rest-start b n));
       }
 
-  module _ (st : State) (kept : List ℕ) (used k : ℕ) (a : At m w b n st kept used k) (h : k < n) (r : List ℕ) (e : r ≡ take 81 (drop (81 * k) b)) where
+  module _ (st : State) (kept figures : List ℕ) (used k : ℕ) (a : At m w b n st kept figures used k) (h : k < n) (r : List ℕ) (e : r ≡ take 81 (drop (81 * k) b)) where
     here : rest b n k ≡ r ∷ rest b n (k + 1)
     here = rest-next b n k h ∙ ap (λ (x : List ℕ). x ∷ rest b n (k + 1)) (sym e)
 
@@ -172,8 +176,16 @@ module _ (m : Mode) (w : Window) (b : List ℕ) (n : ℕ) where
       most-next : used + gain r .assignments .0 ≤ 500
       most-next = ⊎-elim (λ (z : gain r .assignments .0 ≡ 0). omega (arith, a .most)) (λ (z : (kindOf r ≡ R20) × (gain r .assignments .0 ≡ 1)). omega (arith, a .counted, opening (z .0) .room)) (one-or-none (kindOf r) r)
 
-      pub at-next : (kept′ : List ℕ) (used′ : ℕ) → Kept r kept used kept′ used′ → length kept′ ≡ length kept → At m w b n s kept′ used′ (k + 1)
-      at-next kept′ used′ v five =
+      -- the figures so far, with those of what the record ends
+      more-figures : (left : List ℕ) (n′ : ℕ) → n′ ≡ used + gain r .assignments .0 → Noted r (st .assignment .totals) used figures left → Roomy figures
+          → allSlots (blocks (start .assignment) (chunks n b)) ≡ take (5 * n′) left ++ allSlots (blocks (s .assignment) (rest b n (k + 1)))
+      more-figures left n′ i v l =
+          a .figured l ∙ ap (λ (x : List (List ℕ)). take (5 * used) figures ++ allSlots (blocks (st .assignment) x)) here ∙ figures-next (take (5 * used) figures) (st .assignment) r (rest b n (k + 1))
+          ∙ ap₂ (λ (x : List ℕ) (y : State). x ++ allSlots (blocks (y .assignment) (rest b n (k + 1)))) (sym (v .figures (omega (arith, a .most))) ∙ ap (λ (x : ℕ). take (5 * x) left) (sym i)) (went-on m w st (take used kept) r s (sym q) .1)
+
+      pub at-next : (kept′ figures′ : List ℕ) (used′ : ℕ) → Kept r kept used kept′ used′ → length kept′ ≡ length kept → Noted r (st .assignment .totals) used figures figures′ → length figures′ ≡ length figures
+          → At m w b n s kept′ figures′ used′ (k + 1)
+      at-next kept′ figures′ used′ v five f size =
           let i : after st r ≡ s = went-on m w st (take used kept) r s (sym q) .1 in
           record {
             within = omega arith;
@@ -189,14 +201,24 @@ module _ (m : Mode) (w : Window) (b : List ℕ) (n : ℕ) where
             found =
                 a .found ∙ ap (λ (x : List (List ℕ)). take used kept ++ allKeys x) here ∙ ap (λ (x : List ℕ). take used kept ++ x) (keys-next r (rest b n (k + 1)))
                 ∙ sym (append-assoc (take used kept) (keys r) (allKeys (rest b n (k + 1)))) ∙ ap (λ (x : List ℕ). x ++ allKeys (rest b n (k + 1))) (sym (v .same));
+            figured = λ l. more-figures figures′ used′ (v .count) f (omega (arith, l, size));
           }
 
   -- nothing is left: the keys are those of the whole
-  pub keys-last : (st : State) (kept : List ℕ) (used k : ℕ) → At m w b n st kept used k → n ≤ k → (t : Totals) → st .file ≡ t → take (t .assignments .0) kept ≡ allKeys (chunks n b)
-  keys-last st kept used k a h t e =
+  pub keys-last : (st : State) (kept figures : List ℕ) (used k : ℕ) → At m w b n st kept figures used k → n ≤ k → (t : Totals) → st .file ≡ t → take (t .assignments .0) kept ≡ allKeys (chunks n b)
+  keys-last st kept figures used k a h t e =
       ap (λ (i : ℕ). take i kept) (ap (λ (x : Totals). x .assignments .0) (sym e) ∙ sym (a .counted))
       ∙ sym (a .found ∙ ap (λ (x : List (List ℕ)). take used kept ++ allKeys x) (rest-end b n k (omega (arith, a .within))) ∙ ap (λ (x : List ℕ). take used kept ++ x) no-keys ∙ append-nil (take used kept))
 
-  pub at-last : (st : State) (kept : List ℕ) (used k : ℕ) → At m w b n st kept used k → n ≤ k → run m w 0 start [] (chunks n b) ≡ atEnd m k st
+  -- and with those of the assignment at hand, so are the figures
+  pub figures-all : (st : State) (kept figures : List ℕ) (used k : ℕ) → At m w b n st kept figures used k → n ≤ k → (t : Totals) → st .file ≡ t
+      → (left : List ℕ) → length left ≡ length figures → (5 * used + 5 ≤ length figures → take (5 * used + 5) left ≡ take (5 * used) figures ++ slots (st .assignment .totals))
+      → Roomy left → take (5 * (t .assignments .0 + 1)) left ≡ allSlots (blocks (start .assignment) (chunks n b))
+  figures-all st kept figures used k a h t e left size f l =
+      let i : 5 * (t .assignments .0 + 1) ≡ 5 * used + 5 = omega (arith, a .counted, ap (λ (x : Totals). x .assignments .0) e) in
+      ap (λ (j : ℕ). take j left) i ∙ f (omega (arith, l, size, a .most))
+      ∙ sym (a .figured (omega (arith, l, size)) ∙ ap (λ (x : List ℕ). take (5 * used) figures ++ x) (ap (λ (x : List (List ℕ)). allSlots (blocks (st .assignment) x)) (rest-end b n k (omega (arith, a .within))) ∙ figures-last (st .assignment)))
+
+  pub at-last : (st : State) (kept figures : List ℕ) (used k : ℕ) → At m w b n st kept figures used k → n ≤ k → run m w 0 start [] (chunks n b) ≡ atEnd m k st
   unfolding run
-  at-last st kept used k a h = a .same ∙ ap (run m w k st (take used kept)) (rest-end b n k (omega (arith, a .within)))
+  at-last st kept figures used k a h = a .same ∙ ap (run m w k st (take used kept)) (rest-end b n k (omega (arith, a .within)))

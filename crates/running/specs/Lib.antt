@@ -1,1 +1,2 @@
+pub mod Figured
 pub mod Kept

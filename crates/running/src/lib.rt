@@ -3,20 +3,22 @@
 ghost use mathlib.Core.Path.{_≡_};
 ghost use mathlib.Core.Bool.{true};
 ghost use mathlib.Core.List.{List, [], _++_};
-ghost use Prim.Native.Nat.{ℕ, _+_, _/_, _≤_};
+ghost use Prim.Native.Nat.{ℕ, _+_, _*_, _/_, _≤_};
 ghost use lib.ListN.{length, take};
 ghost use Rattle.figures.specs.Totals.{_⊕_, oneRecord};
 ghost use Rattle.growth.specs.Bounds.{Small};
 ghost use Rattle.rules.specs.Growth.{passed, start, gain, keys};
 ghost use Rattle.rules.specs.Codes.{serviceCode, serviceFor, kindOf};
 ghost use Rattle.rules.specs.Run.{refused, stepped, kindStep, stepOf, ended, atEnd, run, recordsOf};
-ghost use Rattle.running.specs.Kept.{passedOn, Keyed, Kept, Ran};
+ghost use Rattle.running.specs.Figured.{slots};
+ghost use Rattle.running.specs.Kept.{passedOn, Keyed, Kept, Noted, Ran};
 use dates::Date;
 use dates::Service;
 use dates::Window;
 use figures::amounts::Amount;
 use figures::counts::Count;
 use figures::groups::Group;
+use figures::totals::AssignmentTotals;
 use figures::totals::Totals;
 use layout::Finding;
 use rules::Assignment;
@@ -224,6 +226,39 @@ pub fn take_record(mode: Mode, w: Window, st: State, r: &[u8], keys: &[u64], use
     step_for(kind, w, st, r, keys, used)
 }
 
+// Puts an assignment's figures behind those of so many others; nothing where there is no room.
+fn keep_figures(t: AssignmentTotals, figures: &mut [u64], used: usize)
+    requires { ⌜ used ≤ 500 ⌝ }
+    ensures { λ _. ⌜ (5 * used + 5 ≤ length (now (figures .entry)) → take (5 * used + 5) (now (figures .exit)) ≡ take (5 * used) (now (figures .entry)) ++ slots t) ⌝ }
+{
+    let at = 5 * used;
+    if figures.len() < at + 5 {
+        return;
+    }
+    let totals = t.totals;
+    let transactions = totals.transactions;
+    let records = totals.records;
+    let sum = totals.sum;
+    let first = totals.first;
+    let last = t.last;
+    figures[at] = transactions.0 as u64;
+    figures[at + 1] = records.0 as u64;
+    figures[at + 2] = sum.0;
+    figures[at + 3] = first.0 as u64;
+    figures[at + 4] = last.0 as u64;
+}
+
+// Before a record 20 is taken: keeps the figures of what it ends. The state behind it has them no more.
+fn keep_ended(r: &[u8], t: AssignmentTotals, figures: &mut [u64], used: usize)
+    requires { ⌜ (length (now r) ≡ 81) × (used ≤ 500) ⌝ }
+    ensures { λ _. ⌜ Noted (now (r .entry)) t used (now (figures .entry)) (now (figures .exit)) ⌝ }
+{
+    if fields::places::code_at(r, 7) != 20 {
+        return;
+    }
+    keep_figures(t, figures, used);
+}
+
 // Keeps the key of a sound record 20 behind the others, and answers how many are kept.
 pub fn keep_key(kind: Kind, r: &[u8], keys: &mut [u64], used: usize) -> usize
     requires { ⌜ Keyed (now r) used × (length (now keys) ≡ 500) × (kind ≡ kindOf (now r)) ⌝ }
@@ -293,10 +328,16 @@ fn begin() -> State
     }
 }
 
-// All records in turn: each is handed on as its own 81 bytes. The keys of the assignments are left in what is lent.
-pub fn run_over(mode: Mode, w: Window, bytes: &[u8], kept: &mut [u64]) -> Verdict
+// All records in turn: each is handed on as its own 81 bytes. The keys of the assignments are left in what is lent, and where there is room their figures.
+pub fn run_over(
+    mode: Mode,
+    w: Window,
+    bytes: &[u8],
+    kept: &mut [u64],
+    figures: &mut [u64],
+) -> Verdict
     requires { ⌜ (length (now bytes) / 81 ≤ 200000) × (length (now kept) ≡ 500) ⌝ }
-    ensures { λ x. ⌜ Ran mode w (now (bytes .entry)) (now (kept .exit)) x ⌝ }
+    ensures { λ x. ⌜ Ran mode w (now (bytes .entry)) (now (kept .exit)) (now (figures .exit)) x ⌝ }
 {
     let count = bytes.len() / 81;
     let mut st = begin();
@@ -306,6 +347,9 @@ pub fn run_over(mode: Mode, w: Window, bytes: &[u8], kept: &mut [u64]) -> Verdic
         let at = 81 * k;
         let end = at + 81;
         let r = &bytes[at..end];
+        let before = st.assignment;
+        let totals = before.totals;
+        keep_ended(r, totals, figures, used);
         match take_record(mode, w, st, r, kept, used) {
             Step::Stop(number, field) => {
                 return refusal(number, k, field);
@@ -319,5 +363,8 @@ pub fn run_over(mode: Mode, w: Window, bytes: &[u8], kept: &mut [u64]) -> Verdic
         }
         k += 1;
     }
+    let a = st.assignment;
+    let totals = a.totals;
+    keep_figures(totals, figures, used);
     finish(mode, st, k)
 }

@@ -1,1 +1,3 @@
-pub mod Adds
+pub mod Held
+pub mod Adding
+pub mod Assignments

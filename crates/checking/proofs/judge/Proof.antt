@@ -1,5 +1,5 @@
 use mathlib.Core.Path.{_≡_, _∙_}
-use Rattle.checking.proofs.Whole.{wrong-length, too-many, in-turn, no-figures}
+use Rattle.checking.proofs.Whole.{wrong-length, too-many, in-turn, leaves-none}
 use borrow.Author.Needs.{needs}
 use Rattle.checking.proofs.judge.Statement.{statement}
 use Rattle.checking.proofs.judge.Tie as tie
@@ -17,16 +17,16 @@ refuse-requires c κs = search needs
 
 returns : tie.Need-returns
 returns c =
-    let a = c .before .before .before .before .before .args in
-    (c .refuse .ensures ∙ wrong-length (a .w) (a .file .now) _ (c .before .before .bad-length .ensures) (c .before .if1 .taken), λ t q. absurd (no-figures _ 2 t (c .refuse .ensures) q))
+    let a = c .before .before .before .before .before .before .args in
+    (c .refuse .ensures ∙ wrong-length (a .w) (a .file .now) _ (c .before .before .bad-length .ensures) (c .before .if1 .taken), leaves-none _ _ _ _ 2 (c .refuse .ensures))
 
 refuse-requires-2 : tie.Need-refuse-requires-2
 refuse-requires-2 c κs = search needs
 
 returns-2 : tie.Need-returns-2
 returns-2 c =
-    let a = c .before .before .before .before .before .before .args in
-    (c .refuse2 .ensures ∙ too-many (a .w) (a .file .now) _ (c .before .before .before .bad-length .ensures) (c .before .before .if1 .left) (c .before .if2 .taken), λ t q. absurd (no-figures _ 3 t (c .refuse2 .ensures) q))
+    let a = c .before .before .before .before .before .before .before .args in
+    (c .refuse2 .ensures ∙ too-many (a .w) (a .file .now) _ (c .before .before .before .bad-length .ensures) (c .before .before .if1 .left) (c .before .if2 .taken), leaves-none _ _ _ _ 3 (c .refuse2 .ensures))
 
 run-over-requires : tie.Need-run-over-requires
 run-over-requires c κs = search needs
@@ -34,10 +34,13 @@ run-over-requires c κs = search needs
 same-length : tie.Need-same-length
 same-length c = search needs
 
+same-length-2 : tie.Need-same-length-2
+same-length-2 c = search needs
+
 returns-3 : tie.Need-returns-3
 returns-3 c =
-    let a = c .before .before .before .before .before .before .before .before .before .args in
-    (c .before .before .run-over .ensures .verdict ∙ in-turn (a .w) (a .file .now) _ (c .before .before .before .before .before .before .bad-length .ensures) (c .before .before .before .before .before .if1 .left) (c .before .before .before .before .if2 .left), c .before .before .run-over .ensures .found)
+    let a = c .before .before .before .before .before .before .before .before .before .before .before .before .before .args in
+    (c .before .before .before .before .run-over .ensures .verdict ∙ in-turn (a .w) (a .file .now) _ (c .before .before .before .before .before .before .before .before .before .bad-length .ensures) (c .before .before .before .before .before .before .before .before .if1 .left) (c .before .before .before .before .before .before .before .if2 .left), c .before .before .before .before .run-over .ensures .leaves)
 
 pub judge-spec : {M : Type 1} → statement M
 judge-spec =
@@ -50,4 +53,5 @@ judge-spec =
     returns-2
     run-over-requires
     same-length
+    same-length-2
     returns-3)

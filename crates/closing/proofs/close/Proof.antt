@@ -1,7 +1,6 @@
--- 1, then the draft's own refusal, then 19; nothing is written before all is judged.
--- Assumes nothing.
-use mathlib.Core.Path.{_≡_, sym, ap, _∙_}
+use mathlib.Core.Path.{refl}
 use native.Mathlib.Omega.{arith}
+use Rattle.summing.proofs.Held.{roomy}
 use Rattle.closing.proofs.Answers.{no-day, was-refused, too-short, may-write, wrote}
 use borrow.Author.Needs.{needs}
 use Rattle.closing.proofs.close.Statement.{statement}
@@ -30,6 +29,9 @@ returns c =
     let a = c .before .before .before .before .before .before .args in
     no-day (a .day) (a .draft .now) (a .out .now) _ (c .before .before .before .window .ensures) _ (c .refuse .ensures) (c .before .enum-told .given .1)
 
+slice-aggregate-weigh : tie.Need-slice-aggregate-weigh
+slice-aggregate-weigh c = search needs
+
 weigh-requires : tie.Need-weigh-requires
 weigh-requires c κs = search needs
 
@@ -50,26 +52,29 @@ refuse-requires-2 c κs = search needs
 
 returns-2 : tie.Need-returns-2
 returns-2 c =
-    let a = c .before .before .before .before .before .before .before .before .before .before .before .before .before .before .args in
-    too-short (a .day) (a .draft .now) (a .out .now) _ (c .before .before .before .before .before .before .before .before .before .before .before .window .ensures) _ (c .before .before .before .before .before .before .before .before .before .w .given .1) _ (c .before .before .before .before .before .before .before .weigh .ensures) _ (c .before .before .before .before .before .t .given .1) _ (c .refuse2 .ensures) (omega arith)
+    let a = c .before .before .before .before .before .before .before .before .before .before .before .before .before .before .before .before .args in
+    too-short (a .day) (a .draft .now) (a .out .now) _ (c .before .before .before .before .before .before .before .before .before .before .before .before .before .window .ensures) _ (c .before .before .before .before .before .before .before .before .before .before .before .w .given .1) _ (c .before .before .before .before .before .before .before .before .weigh .ensures .0) _ (c .before .before .before .before .before .t .given .1) _ (c .refuse2 .ensures) (omega arith)
+
+slice-aggregate-write : tie.Need-slice-aggregate-write
+slice-aggregate-write c = search needs
 
 write-requires : tie.Need-write-requires
 write-requires c κs =
-    let a = c .before .before .before .before .before .before .before .before .before .before .before .before .before .before .args in
-    may-write (a .day) (a .draft .now) (a .out .now) _ (c .before .before .before .before .before .before .before .before .before .before .before .window .ensures) _ (c .before .before .before .before .before .before .before .before .before .w .given .1) _ (c .before .before .before .before .before .before .before .weigh .ensures) _ (c .before .before .before .before .before .t .given .1) (omega arith)
+    let a = c .before .before .before .before .before .before .before .before .before .before .before .before .before .before .before .before .before .args in
+    may-write (a .day) (a .draft .now) (a .out .now) _ (c .before .before .before .before .before .before .before .before .before .before .before .before .before .before .window .ensures) _ (c .before .before .before .before .before .before .before .before .before .before .before .before .w .given .1) _ (c .before .before .before .before .before .before .before .before .before .weigh .ensures .0) _ (c .before .before .before .before .before .before .t .given .1) (omega arith) _ (c .before .before .before .before .before .before .before .before .before .weigh .ensures .1) (roomy _ _ (c .before .before .before .before .before .before .before .before .before .weigh .kept .1 .1 .0) refl)
 
 returns-3 : tie.Need-returns-3
 returns-3 c =
-    let a = c .before .before .before .before .before .before .before .before .before .before .args in
-    was-refused (a .day) (a .draft .now) (a .out .now) _ (c .before .before .before .before .before .before .before .window .ensures) _ (c .before .before .before .before .before .w .given .1) _ (c .before .before .before .weigh .ensures) _ (c .before .refusal .given .1)
+    let a = c .before .before .before .before .before .before .before .before .before .before .before .before .args in
+    was-refused (a .day) (a .draft .now) (a .out .now) _ (c .before .before .before .before .before .before .before .before .before .window .ensures) _ (c .before .before .before .before .before .before .before .w .given .1) _ (c .before .before .before .before .weigh .ensures .0) _ (c .before .refusal .given .1)
 
 same-length : tie.Need-same-length
 same-length c = search needs
 
 returns-4 : tie.Need-returns-4
 returns-4 c =
-    let a = c .before .before .before .before .before .before .before .before .before .before .before .before .before .before .before .before .before .args in
-    wrote (a .day) (a .draft .now) (a .out .now) _ (c .before .before .before .before .before .before .before .before .before .before .before .before .before .before .window .ensures) _ (c .before .before .before .before .before .before .before .before .before .before .before .before .w .given .1) _ (c .before .before .before .before .before .before .before .before .before .before .weigh .ensures) _ (c .before .before .before .before .before .before .before .before .t .given .1) (omega arith) _ (c .before .before .write .ensures)
+    let a = c .before .before .before .before .before .before .before .before .before .before .before .before .before .before .before .before .before .before .before .before .args in
+    wrote (a .day) (a .draft .now) (a .out .now) _ (c .before .before .before .before .before .before .before .before .before .before .before .before .before .before .before .before .before .window .ensures) _ (c .before .before .before .before .before .before .before .before .before .before .before .before .before .before .before .w .given .1) _ (c .before .before .before .before .before .before .before .before .before .before .before .before .weigh .ensures .0) _ (c .before .before .before .before .before .before .before .before .before .t .given .1) (omega arith) _ (c .before .before .write .ensures)
 
 pub close-spec : {M : Type 1} → statement M
 close-spec =
@@ -80,6 +85,7 @@ close-spec =
     enum-told
     refuse-requires
     returns
+    slice-aggregate-weigh
     weigh-requires
     enum-known-refusal
     enum-known-t
@@ -87,6 +93,7 @@ close-spec =
     mul-if1
     refuse-requires-2
     returns-2
+    slice-aggregate-write
     write-requires
     returns-3
     same-length

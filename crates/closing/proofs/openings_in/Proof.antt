@@ -1,6 +1,6 @@
 -- Behind k records the count is that of those records, and never above k.
 -- Assumes nothing.
-use Prim.Native.Nat.{_-_, _/_, _≤_}
+use Prim.Native.Nat.{_-_, _/_}
 use mathlib.Core.Path.{_≡_, refl}
 use native.Mathlib.Omega.{arith}
 use borrow.Author.Needs.{needs}

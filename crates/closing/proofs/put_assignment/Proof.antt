@@ -1,8 +1,4 @@
--- The assignment's bytes as they stand, and its end directly behind them.
--- Assumes nothing.
-use Prim.Native.Nat.{_*_, _-_, _+_}
-use mathlib.Core.Path.{_≡_, refl, sym, ap, _∙_}
-use native.Mathlib.Omega.{arith}
+use mathlib.Core.Path.{refl}
 use Rattle.closing.proofs.Files.{assignment-put}
 use borrow.Author.Needs.{needs}
 use Rattle.closing.proofs.put_assignment.Statement.{statement}
@@ -69,10 +65,8 @@ same-length c = search needs
 
 returns : tie.Need-returns
 returns c =
-    let p = c .before .before in
-    let q = c .before .before .before .before .before .before in
-    let s = c .before .before .before .before .before .before .before .before .before .before .before .before .before .before .before .before in
-    (refl, assignment-put (s .args .draft .now) (s .args .out .now) _ _ (s .args .from) (s .args .ended .next) (s .args .ended .totals) (s .pre .0) (s .pre .1) _ (c .before .before .before .before .before .before .before .before .before .before .before .service-in .ensures) (q .copy-to .ensures) (p .put-end .ensures))
+    let a = c .before .before .before .before .before .before .before .before .before .before .before .before .before .before .args in
+    (refl, assignment-put (a .draft .now) (a .out .now) _ _ (a .from) (a .next) (a .totals) (c .before .before .before .before .before .before .before .before .before .before .before .before .before .before .pre .0) (c .before .before .before .before .before .before .before .before .before .before .before .before .before .before .pre .1) _ (c .before .before .before .before .before .before .before .before .before .before .service-in .ensures) (c .before .before .before .before .before .before .copy-to .ensures) (c .before .before .put-end .ensures))
 
 pub put-assignment-spec : {M : Type 1} → statement M
 put-assignment-spec =

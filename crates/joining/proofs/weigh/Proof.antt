@@ -32,6 +32,9 @@ returns c =
 slice-aggregate-judge : tie.Need-slice-aggregate-judge
 slice-aggregate-judge c = search needs
 
+slice-aggregate-judge-2 : tie.Need-slice-aggregate-judge-2
+slice-aggregate-judge-2 c = search needs
+
 judge-requires : tie.Need-judge-requires
 judge-requires c κs = search needs
 
@@ -49,18 +52,18 @@ slice-aggregate-weigh-second c = search needs
 
 weigh-second-requires : tie.Need-weigh-second-requires
 weigh-second-requires c κs =
-    let i = c .before .before .before .before .before .judge .ensures in
-    (record { day = c .before .before .before .before .before .before .before .before .before .before .before .before .before .args .day; opened = sym (c .before .before .before .before .before .before .before .before .before .before .window .ensures) ∙ c .before .before .before .before .before .before .before .before .w .given .1 }, sym (i .0) ∙ c .before .before .s .given .1, c .before .before .before .before .before .judge .kept .1 .1 .0, i .1 _ (c .before .before .s .given .1))
+    let i = c .before .before .before .before .before .before .judge .ensures in
+    (record { day = c .before .before .before .before .before .before .before .before .before .before .before .before .before .before .before .args .day; opened = sym (c .before .before .before .before .before .before .before .before .before .before .before .before .window .ensures) ∙ c .before .before .before .before .before .before .before .before .before .before .w .given .1 }, sym (i .0) ∙ c .before .before .s .given .1, c .before .before .before .before .before .before .judge .kept .1 .1 .0, i .1 .found _ (c .before .before .s .given .1))
 
 returns-2 : tie.Need-returns-2
 returns-2 c =
-    let a = c .before .before .before .before .before .before .before .before .before .before .before .before .before .args in
-    first-refused (a .day) (a .first .now) (a .second .now) _ (c .before .before .before .before .before .before .before .before .before .before .window .ensures) _ (c .before .before .before .before .before .before .before .before .w .given .1) _ (c .before .before .before .before .before .judge .ensures .0) _ _ (c .of-operand .ensures) (c .before .before .refusal .given .1)
+    let a = c .before .before .before .before .before .before .before .before .before .before .before .before .before .before .before .args in
+    first-refused (a .day) (a .first .now) (a .second .now) _ (c .before .before .before .before .before .before .before .before .before .before .before .before .window .ensures) _ (c .before .before .before .before .before .before .before .before .before .before .w .given .1) _ (c .before .before .before .before .before .before .judge .ensures .0) _ _ (c .of-operand .ensures) (c .before .before .refusal .given .1)
 
 returns-3 : tie.Need-returns-3
 returns-3 c =
-    let a = c .before .before .before .before .before .before .before .before .before .before .before .before .before .before .args in
-    first-accepted (a .day) (a .first .now) (a .second .now) _ (c .before .before .before .before .before .before .before .before .before .before .before .window .ensures) _ (c .before .before .before .before .before .before .before .before .before .w .given .1) _ (c .before .before .before .before .before .before .judge .ensures .0) _ _ (c .weigh-second .ensures) (c .before .before .before .s .given .1)
+    let a = c .before .before .before .before .before .before .before .before .before .before .before .before .before .before .before .before .args in
+    first-accepted (a .day) (a .first .now) (a .second .now) _ (c .before .before .before .before .before .before .before .before .before .before .before .before .before .window .ensures) _ (c .before .before .before .before .before .before .before .before .before .before .before .w .given .1) _ (c .before .before .before .before .before .before .before .judge .ensures .0) _ _ (c .weigh-second .ensures) (c .before .before .before .s .given .1)
 
 pub weigh-spec : {M : Type 1} → statement M
 weigh-spec =
@@ -72,6 +75,7 @@ weigh-spec =
     refuse-requires
     returns
     slice-aggregate-judge
+    slice-aggregate-judge-2
     judge-requires
     enum-known-refusal
     of-operand-requires

@@ -13,6 +13,9 @@ use Rattle.joining.proofs.of_operand.Reads as of-operand-reads
 slice-aggregate-judge : tie.Need-slice-aggregate-judge
 slice-aggregate-judge c = search needs
 
+slice-aggregate-judge-2 : tie.Need-slice-aggregate-judge-2
+slice-aggregate-judge-2 c = search needs
+
 judge-requires : tie.Need-judge-requires
 judge-requires c κs = search needs
 
@@ -30,25 +33,26 @@ slice-aggregate-allowed c = search needs
 
 allowed-requires : tie.Need-allowed-requires
 allowed-requires c κs =
-    let s = c .before .before .before .before .before .before .before .before .before .before in
-    let i = sym (c .before .before .before .before .before .judge .ensures .0) ∙ c .before .before .t .given .1 in
-    (judged _ (s .pre .0) _ _ _ (s .pre .1) (s .pre .2) (s .pre .3), judged _ (s .pre .0) _ _ _ i (c .before .before .before .before .before .judge .kept .1 .1 .0) (c .before .before .before .before .before .judge .ensures .1 _ (c .before .before .t .given .1)))
+    let p = c .before .before .before .before .before .before .before .before .before .before .before .before .pre in
+    let i = sym (c .before .before .before .before .before .before .judge .ensures .0) ∙ c .before .before .t .given .1 in
+    (judged _ (p .0) _ _ _ (p .1) (p .2) (p .3), judged _ (p .0) _ _ _ i (c .before .before .before .before .before .before .judge .kept .1 .1 .0) (c .before .before .before .before .before .before .judge .ensures .1 .found _ (c .before .before .t .given .1)))
 
 returns : tie.Need-returns
 returns c =
-    let a = c .before .before .before .before .before .before .before .before .before .before .args in
-    second-refused (a .w) (a .first .now) (a .s) (a .second .now) _ (c .before .before .before .before .before .judge .ensures .0) _ _ (c .of-operand .ensures) (c .before .before .refusal .given .1)
+    let a = c .before .before .before .before .before .before .before .before .before .before .before .before .args in
+    second-refused (a .w) (a .first .now) (a .s) (a .second .now) _ (c .before .before .before .before .before .before .judge .ensures .0) _ _ (c .of-operand .ensures) (c .before .before .refusal .given .1)
 
 returns-2 : tie.Need-returns-2
 returns-2 c =
-    let a = c .before .before .before .before .before .before .before .before .before .before .before .args in
-    second-accepted (a .w) (a .first .now) (a .s) (a .second .now) _ (c .before .before .before .before .before .before .judge .ensures .0) _ _ (c .allowed .ensures) (c .before .before .before .t .given .1)
+    let a = c .before .before .before .before .before .before .before .before .before .before .before .before .before .args in
+    second-accepted (a .w) (a .first .now) (a .s) (a .second .now) _ (c .before .before .before .before .before .before .before .judge .ensures .0) _ _ (c .allowed .ensures) (c .before .before .before .t .given .1)
 
 pub weigh-second-spec : {M : Type 1} → statement M
 weigh-second-spec =
     tie.close
     (tie.spec
     slice-aggregate-judge
+    slice-aggregate-judge-2
     judge-requires
     enum-known-refusal
     of-operand-requires

@@ -1,7 +1,6 @@
--- The check's refusals, then 21, then 19.
--- Assumes nothing.
-use mathlib.Core.Path.{_≡_, refl, sym, ap, _∙_}
+use mathlib.Core.Path.{refl, sym, _∙_}
 use native.Mathlib.Omega.{arith}
+use Rattle.summing.proofs.Held.{roomy}
 use Rattle.laws.proofs.Slices.{long-enough}
 use Rattle.parting.proofs.Answers.{was-refused, below, above, parts, divisible}
 use borrow.Author.Needs.{needs}
@@ -9,12 +8,18 @@ use Rattle.parting.proofs.part.Statement.{statement}
 use Rattle.parting.proofs.part.Tie as tie
 use Rattle.parting.proofs.part.Reads as reads
 use Rattle.parting.proofs.part.Lts as lts
-use Rattle.checking.proofs.check.Reads as check-reads
+use Rattle.checking.proofs.check_into.Reads as check-into-reads
 use Rattle.parting.proofs.divide.Reads as divide-reads
 use Rattle.parting.proofs.refuse.Reads as refuse-reads
 
-check-requires : tie.Need-check-requires
-check-requires c κs = search needs
+slice-aggregate-check-into : tie.Need-slice-aggregate-check-into
+slice-aggregate-check-into c = search needs
+
+slice-aggregate-check-into-2 : tie.Need-slice-aggregate-check-into-2
+slice-aggregate-check-into-2 c = search needs
+
+check-into-requires : tie.Need-check-into-requires
+check-into-requires c κs = search needs
 
 enum-known-refusal : tie.Need-enum-known-refusal
 enum-known-refusal c = search needs
@@ -27,8 +32,8 @@ refuse-requires c κs = search needs
 
 returns : tie.Need-returns
 returns c =
-    let a = c .before .before .before .before .before .before .before .before .before .before .args in
-    below (a .day) (a .file .now) (a .k) (a .first .now) (a .second .now) _ (c .before .before .before .before .before .before .check .ensures) _ (c .before .before .before .before .t .given .1) _ (c .refuse .ensures) (c .before .if1 .taken)
+    let a = c .before .before .before .before .before .before .before .before .before .before .before .before .before .before .args in
+    below (a .day) (a .file .now) (a .k) (a .first .now) (a .second .now) _ (c .before .before .before .before .before .before .before .before .check-into .ensures .0) _ (c .before .before .before .before .t .given .1) _ (c .refuse .ensures) (c .before .if1 .taken)
 
 cast-if2 : tie.Need-cast-if2
 cast-if2 c = search needs
@@ -38,11 +43,14 @@ refuse-requires-2 c κs = search needs
 
 returns-2 : tie.Need-returns-2
 returns-2 c =
-    let a = c .before .before .before .before .before .before .before .before .before .before .before .before .args in
-    above (a .day) (a .file .now) (a .k) (a .first .now) (a .second .now) _ (c .before .before .before .before .before .before .before .before .check .ensures) _ (c .before .before .before .before .before .before .t .given .1) _ (c .refuse2 .ensures) (omega arith)
+    let a = c .before .before .before .before .before .before .before .before .before .before .before .before .before .before .before .before .args in
+    above (a .day) (a .file .now) (a .k) (a .first .now) (a .second .now) _ (c .before .before .before .before .before .before .before .before .before .before .check-into .ensures .0) _ (c .before .before .before .before .before .before .t .given .1) _ (c .refuse2 .ensures) (omega arith)
+
+cast-all : tie.Need-cast-all
+cast-all c = search needs
 
 sub-end : tie.Need-sub-end
-sub-end c = omega (arith, long-enough (c .before .before .before .before .before .before .before .before .before .before .before .args .day) (c .before .before .before .before .before .before .before .before .before .before .before .args .file .now) _ (sym (c .before .before .before .before .before .before .before .check .ensures) ∙ c .before .before .before .before .before .t .given .1))
+sub-end c = omega (arith, long-enough (c .before .before .before .before .before .before .before .before .before .before .before .before .before .before .before .before .args .day) (c .before .before .before .before .before .before .before .before .before .before .before .before .before .before .before .before .args .file .now) _ (sym (c .before .before .before .before .before .before .before .before .before .before .check-into .ensures .0) ∙ c .before .before .before .before .before .before .t .given .1))
 
 sub-divide : tie.Need-sub-divide
 sub-divide c = search needs
@@ -51,26 +59,30 @@ part-divide-start : tie.Need-part-divide-start
 part-divide-start c = search needs
 
 part-divide-end : tie.Need-part-divide-end
-part-divide-end c = omega (arith, long-enough (c .before .before .before .before .before .before .before .before .before .before .before .args .day) (c .before .before .before .before .before .before .before .before .before .before .before .args .file .now) _ (sym (c .before .before .before .before .before .before .before .check .ensures) ∙ c .before .before .before .before .before .t .given .1))
+part-divide-end c = omega (arith, long-enough (c .before .before .before .before .before .before .before .before .before .before .before .before .before .before .before .before .args .day) (c .before .before .before .before .before .before .before .before .before .before .before .before .before .before .before .before .args .file .now) _ (sym (c .before .before .before .before .before .before .before .before .before .before .check-into .ensures .0) ∙ c .before .before .before .before .before .before .t .given .1))
 
 sub-divide-2 : tie.Need-sub-divide-2
-sub-divide-2 c = omega (arith, long-enough (c .before .before .before .before .before .before .before .before .before .before .before .before .args .day) (c .before .before .before .before .before .before .before .before .before .before .before .before .args .file .now) _ (sym (c .before .before .before .before .before .before .before .before .check .ensures) ∙ c .before .before .before .before .before .before .t .given .1))
+sub-divide-2 c = omega (arith, long-enough (c .before .before .before .before .before .before .before .before .before .before .before .before .before .before .before .before .before .args .day) (c .before .before .before .before .before .before .before .before .before .before .before .before .before .before .before .before .before .args .file .now) _ (sym (c .before .before .before .before .before .before .before .before .before .before .before .check-into .ensures .0) ∙ c .before .before .before .before .before .before .before .t .given .1))
 
 part-divide-start-2 : tie.Need-part-divide-start-2
-part-divide-start-2 c = omega (arith, long-enough (c .before .before .before .before .before .before .before .before .before .before .before .before .args .day) (c .before .before .before .before .before .before .before .before .before .before .before .before .args .file .now) _ (sym (c .before .before .before .before .before .before .before .before .check .ensures) ∙ c .before .before .before .before .before .before .t .given .1))
+part-divide-start-2 c = omega (arith, long-enough (c .before .before .before .before .before .before .before .before .before .before .before .before .before .before .before .before .before .args .day) (c .before .before .before .before .before .before .before .before .before .before .before .before .before .before .before .before .before .args .file .now) _ (sym (c .before .before .before .before .before .before .before .before .before .before .before .check-into .ensures .0) ∙ c .before .before .before .before .before .before .before .t .given .1))
 
 part-divide-end-2 : tie.Need-part-divide-end-2
 part-divide-end-2 c = search needs
 
+slice-aggregate-divide : tie.Need-slice-aggregate-divide
+slice-aggregate-divide c = search needs
+
 divide-requires : tie.Need-divide-requires
 divide-requires c κs =
-    let a = c .before .before .before .before .before .before .before .before .before .before .before .before .before .before .before .args in
-    divisible (a .day) (a .file .now) _ (sym (c .before .before .before .before .before .before .before .before .before .before .before .check .ensures) ∙ c .before .before .before .before .before .before .before .before .before .t .given .1)
+    let a = c .before .before .before .before .before .before .before .before .before .before .before .before .before .before .before .before .before .before .before .before .before .args in
+    let e = c .before .before .before .before .before .before .before .before .before .before .before .before .before .before .before .check-into .ensures in
+    divisible (a .day) (a .file .now) _ (sym (e .0) ∙ c .before .before .before .before .before .before .before .before .before .before .before .t .given .1) _ _ _ (c .before .before .before .before .before .before .before .before .before .before .before .t .given .1) (e .1) (roomy _ _ (c .before .before .before .before .before .before .before .before .before .before .before .before .before .before .before .check-into .kept .1 .1 .1 .0) refl) (a .k) (c .before .before .before .before .before .before .before .before .if1 .left) (omega arith)
 
 returns-3 : tie.Need-returns-3
 returns-3 c =
-    let a = c .before .before .before .before .before .before .before .args in
-    was-refused (a .day) (a .file .now) (a .k) (a .first .now) (a .second .now) _ (c .before .before .before .check .ensures) _ (c .before .refusal .given .1)
+    let a = c .before .before .before .before .before .before .before .before .before .before .before .args in
+    was-refused (a .day) (a .file .now) (a .k) (a .first .now) (a .second .now) _ (c .before .before .before .before .before .check-into .ensures .0) _ (c .before .refusal .given .1)
 
 same-length : tie.Need-same-length
 same-length c = search needs
@@ -80,15 +92,17 @@ same-length-2 c = search needs
 
 returns-4 : tie.Need-returns-4
 returns-4 c =
-    let a = c .before .before .before .before .before .before .before .before .before .before .before .before .before .before .before .before .before .before .before .before .args in
+    let a = c .before .before .before .before .before .before .before .before .before .before .before .before .before .before .before .before .before .before .before .before .before .before .before .before .before .before .args in
     let d = c .before .before .before .before .divide .ensures in
-    parts (a .day) (a .file .now) (a .k) (a .first .now) (a .second .now) _ (c .before .before .before .before .before .before .before .before .before .before .before .before .before .before .before .before .check .ensures) _ (c .before .before .before .before .before .before .before .before .before .before .before .before .before .before .t .given .1) (c .before .before .before .before .before .before .before .before .before .before .before .if1 .left) (omega arith) _ _ _ (d .0) (d .1) (d .2)
+    parts (a .day) (a .file .now) (a .k) (a .first .now) (a .second .now) _ (c .before .before .before .before .before .before .before .before .before .before .before .before .before .before .before .before .before .before .before .before .check-into .ensures .0) _ (c .before .before .before .before .before .before .before .before .before .before .before .before .before .before .before .before .t .given .1) (c .before .before .before .before .before .before .before .before .before .before .before .before .before .if1 .left) (omega arith) _ _ _ (d .0) (d .1) (d .2)
 
 pub part-spec : {M : Type 1} → statement M
 part-spec =
     tie.close
     (tie.spec
-    check-requires
+    slice-aggregate-check-into
+    slice-aggregate-check-into-2
+    check-into-requires
     enum-known-refusal
     enum-known-t
     refuse-requires
@@ -96,6 +110,7 @@ part-spec =
     cast-if2
     refuse-requires-2
     returns-2
+    cast-all
     sub-end
     sub-divide
     part-divide-start
@@ -103,6 +118,7 @@ part-spec =
     sub-divide-2
     part-divide-start-2
     part-divide-end-2
+    slice-aggregate-divide
     divide-requires
     returns-3
     same-length
