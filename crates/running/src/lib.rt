@@ -248,12 +248,12 @@ fn keep_figures(t: AssignmentTotals, figures: &mut [u64], used: usize)
     figures[at + 4] = last.0 as u64;
 }
 
-// Before a record 20 is taken: keeps the figures of what it ends. The state behind it has them no more.
-fn keep_ended(r: &[u8], t: AssignmentTotals, figures: &mut [u64], used: usize)
-    requires { ⌜ (length (now r) ≡ 81) × (used ≤ 500) ⌝ }
-    ensures { λ _. ⌜ Noted (now (r .entry)) t used (now (figures .entry)) (now (figures .exit)) ⌝ }
+// Behind a record 20: keeps the figures that stood before it, of the assignment that it ends.
+fn keep_ended(kind: Kind, t: AssignmentTotals, figures: &mut [u64], used: usize)
+    requires { ⌜ used ≤ 500 ⌝ }
+    ensures { λ _. ⌜ ((r : List ℕ) → kind ≡ kindOf r → Noted r t used (now (figures .entry)) (now (figures .exit))) ⌝ }
 {
-    if fields::places::code_at(r, 7) != 20 {
+    if order::number_of(kind) != 20 {
         return;
     }
     keep_figures(t, figures, used);
@@ -349,7 +349,6 @@ pub fn run_over(
         let r = &bytes[at..end];
         let before = st.assignment;
         let totals = before.totals;
-        keep_ended(r, totals, figures, used);
         match take_record(mode, w, st, r, kept, used) {
             Step::Stop(number, field) => {
                 return refusal(number, k, field);
@@ -357,6 +356,7 @@ pub fn run_over(
             Step::Next(next) => {
                 let a = next.assignment;
                 let kind = a.last;
+                keep_ended(kind, totals, figures, used);
                 used = keep_key(kind, r, kept, used);
                 st = next;
             }

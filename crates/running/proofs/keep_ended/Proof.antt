@@ -1,21 +1,20 @@
-use mathlib.Core.Path.{_≡_, refl, sym, _∙_}
-use Rattle.rules.specs.Codes.{recordCode}
-use Rattle.rules.proofs.Codes.{twenty}
-use Rattle.running.proofs.Keys.{twenty-code}
+use mathlib.Core.Path.{_≡_, refl, ap, sym, _∙_}
+use Rattle.rules.specs.Codes.{numberOfKind}
+use Rattle.running.proofs.Keys.{is-twenty}
 use Rattle.running.proofs.Figures.{noted-ended, noted-on}
 use borrow.Author.Needs.{needs}
 use Rattle.running.proofs.keep_ended.Statement.{statement}
 use Rattle.running.proofs.keep_ended.Tie as tie
 use Rattle.running.proofs.keep_ended.Reads as reads
 use Rattle.running.proofs.keep_ended.Lts as lts
-use Rattle.fields.proofs.places.code_at.Reads as code-at-reads
+use Rattle.order.proofs.number_of.Reads as number-of-reads
 use Rattle.running.proofs.keep_figures.Reads as keep-figures-reads
 
-code-at-requires : tie.Need-code-at-requires
-code-at-requires c κs = search needs
+number-of-requires : tie.Need-number-of-requires
+number-of-requires c κs = search needs
 
 returns : tie.Need-returns
-returns c = noted-on _ _ _ _ _ (λ e. c .if1 .taken (c .before .code-at .ensures ∙ twenty-code _ e)) refl
+returns c = λ r e. noted-on _ _ _ _ _ (λ q. c .if1 .taken (c .before .number-of .ensures ∙ ap numberOfKind (e ∙ q))) refl
 
 keep-figures-requires : tie.Need-keep-figures-requires
 keep-figures-requires c κs = search needs
@@ -24,8 +23,10 @@ same-length : tie.Need-same-length
 same-length c = search needs
 
 returns-2 : tie.Need-returns-2
-returns-2 c = noted-ended _ _ _ _ _ (twenty _ (sym (c .before .before .before .before .before .code-at .ensures) ∙ c .before .before .before .before .if1 .left)) (c .before .before .keep-figures .ensures)
+returns-2 c = λ r e.
+    let n = c .before .before .before .before .before in
+    noted-ended _ _ _ _ _ (sym e ∙ is-twenty _ (sym (n .number-of .ensures) ∙ c .before .before .before .before .if1 .left)) (c .before .before .keep-figures .ensures)
 
 pub keep-ended-spec : {M : Type 1} → statement M
 keep-ended-spec =
-    tie.close (tie.spec code-at-requires returns keep-figures-requires same-length returns-2)
+    tie.close (tie.spec number-of-requires returns keep-figures-requires same-length returns-2)

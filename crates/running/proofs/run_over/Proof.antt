@@ -47,21 +47,13 @@ part-r-start c = search needs
 part-r-end : tie.Need-part-r-end Inv-loop μ-loop
 part-r-end c = search needs
 
-keep-ended-requires : tie.Need-keep-ended-requires Inv-loop μ-loop
-keep-ended-requires c κs =
+take-record-requires : tie.Need-take-record-requires Inv-loop μ-loop
+take-record-requires c κs =
     let l = c .before .before .before .before .before .loop in
     let a = c .before .before .before .before .before .before .before .before .before .before .args in
     let b = a .bytes .now in
-    let h : l .k < length b / 81 = c .before .before .before .before .loop-test .taken in
-    (long (a .mode) (a .w) b (length b / 81) (l .st) (l .kept) (l .figures) (l .used) (l .k) (l .inv .0) h _ (part-is b (l .k)), l .inv .0 .most)
-
-take-record-requires : tie.Need-take-record-requires Inv-loop μ-loop
-take-record-requires c κs =
-    let l = c .before .before .before .before .before .before .before .before .before .loop in
-    let a = c .before .before .before .before .before .before .before .before .before .before .before .before .before .before .args in
-    let b = a .bytes .now in
     let e = part-is b (l .k) in
-    let h : l .k < length b / 81 = c .before .before .before .before .before .before .before .before .loop-test .taken in (
+    let h : l .k < length b / 81 = c .before .before .before .before .loop-test .taken in (
       long (a .mode) (a .w) b (length b / 81) (l .st) (l .kept) (l .figures) (l .used) (l .k) (l .inv .0) h _ e,
       room (a .mode) (a .w) b (length b / 81) (l .st) (l .kept) (l .figures) (l .used) (l .k) (l .inv .0) h _ e,
       omega (arith, l .inv .0 .most, l .inv .0 .slots),
@@ -74,17 +66,17 @@ refusal-requires : tie.Need-refusal-requires Inv-loop μ-loop
 refusal-requires c κs = search needs
 
 same-length : tie.Need-same-length Inv-loop μ-loop
-same-length c = c .before .before .before .before .before .before .before .before .before .before .before .before .before .before .loop .inv .0 .slots ∙ sym (c .before .before .before .before .before .before .before .before .before .before .before .before .before .before .before .before .before .before .before .pre .1)
+same-length c = c .before .before .before .before .before .before .before .before .before .before .loop .inv .0 .slots ∙ sym (c .before .before .before .before .before .before .before .before .before .before .before .before .before .before .before .pre .1)
 
 same-length-2 : tie.Need-same-length-2 Inv-loop μ-loop
-same-length-2 c = c .before .before .before .before .before .before .before .before .keep-ended .kept .1 .1 .0 ∙ c .before .before .before .before .before .before .before .before .before .before .before .before .before .before .loop .inv .1
+same-length-2 c = c .before .before .before .before .before .before .before .before .before .before .loop .inv .1
 
 returns : tie.Need-returns Inv-loop μ-loop
 returns c =
-    let l = c .before .before .before .before .before .before .before .before .before .before .before .before .before .before .loop in
-    let a = c .before .before .before .before .before .before .before .before .before .before .before .before .before .before .before .before .before .before .before .args in
+    let l = c .before .before .before .before .before .before .before .before .before .before .loop in
+    let a = c .before .before .before .before .before .before .before .before .before .before .before .before .before .before .before .args in
     let b = a .bytes .now in
-    let h : l .k < length b / 81 = c .before .before .before .before .before .before .before .before .before .before .before .before .before .loop-test .taken in
+    let h : l .k < length b / 81 = c .before .before .before .before .before .before .before .before .before .loop-test .taken in
     record {
       verdict =
           c .refusal .ensures
@@ -95,13 +87,16 @@ returns c =
 enum-known-next : tie.Need-enum-known-next Inv-loop μ-loop
 enum-known-next c = search needs
 
+keep-ended-requires : tie.Need-keep-ended-requires Inv-loop μ-loop
+keep-ended-requires c κs = c .before .before .before .before .before .before .before .before .before .before .before .loop .inv .0 .most
+
 keep-key-requires : tie.Need-keep-key-requires Inv-loop μ-loop
 keep-key-requires c κs =
     let l = c .before .before .before .before .before .before .before .before .before .before .before .before .before .before .before .loop in
     let a = c .before .before .before .before .before .before .before .before .before .before .before .before .before .before .before .before .before .before .before .before .args in
     let b = a .bytes .now in
     let h : l .k < length b / 81 = c .before .before .before .before .before .before .before .before .before .before .before .before .before .before .loop-test .taken in
-    let q = sym (c .before .before .before .next .given .1) ∙ c .before .before .before .before .before .take-record .ensures in (
+    let q = sym (c .before .before .before .before .before .before .before .next .given .1) ∙ c .before .before .before .before .before .before .before .before .before .take-record .ensures in (
       keyed (a .mode) (a .w) b (length b / 81) (l .st) (l .kept) (l .figures) (l .used) (l .k) (l .inv .0) h _ (part-is b (l .k)) _ q,
       l .inv .0 .slots,
       told (a .mode) (a .w) b (length b / 81) (l .st) (l .kept) (l .figures) (l .used) (l .k) (l .inv .0) h _ (part-is b (l .k)) _ q,
@@ -119,9 +114,11 @@ loop-again c =
     let a = c .before .before .before .before .before .before .before .before .before .before .before .before .before .before .before .before .before .before .before .before .before .before .before .args in
     let b = a .bytes .now in
     let key = c .before .before .keep-key in
-    let note = c .before .before .before .before .before .before .before .before .before .before .before .before .keep-ended in
+    let note = c .before .before .before .before .before .before .keep-ended in
     let h : l .k < length b / 81 = c .before .before .before .before .before .before .before .before .before .before .before .before .before .before .before .before .before .loop-test .taken in
-    (at-next (a .mode) (a .w) b (length b / 81) (l .st) (l .kept) (l .figures) (l .used) (l .k) (l .inv .0) h _ (part-is b (l .k)) _ (sym (c .before .before .before .before .before .before .next .given .1) ∙ c .before .before .before .before .before .before .before .before .take-record .ensures) _ _ _ (key .ensures) (key .kept .1 .1 .0) (note .ensures) (note .kept .1 .1 .0), note .kept .1 .1 .0 ∙ l .inv .1)
+    let q = sym (c .before .before .before .before .before .before .before .before .before .before .next .given .1) ∙ c .before .before .before .before .before .before .before .before .before .before .before .before .take-record .ensures in
+    let noted = note .ensures _ (told (a .mode) (a .w) b (length b / 81) (l .st) (l .kept) (l .figures) (l .used) (l .k) (l .inv .0) h _ (part-is b (l .k)) _ q) in
+    (at-next (a .mode) (a .w) b (length b / 81) (l .st) (l .kept) (l .figures) (l .used) (l .k) (l .inv .0) h _ (part-is b (l .k)) _ q _ _ _ (key .ensures) (key .kept .1 .1 .0) noted (note .kept .1 .1 .0), note .kept .1 .1 .0 ∙ l .inv .1)
 
 keep-figures-requires : tie.Need-keep-figures-requires Inv-loop μ-loop
 keep-figures-requires c κs = c .before .before .before .before .loop .inv .0 .most
@@ -166,7 +163,6 @@ run-over-spec =
     sub-r
     part-r-start
     part-r-end
-    keep-ended-requires
     take-record-requires
     enum-known-number
     refusal-requires
@@ -174,6 +170,7 @@ run-over-spec =
     same-length-2
     returns
     enum-known-next
+    keep-ended-requires
     keep-key-requires
     add-k
     loop-less
