@@ -181,9 +181,13 @@ pub fn say_boundaries(assignments: u32) {
         say(b"The file has 1 assignment, so it cannot be parted.\n");
         return;
     }
+    if assignments == 2 {
+        say(b"The file has 2 assignments, so K is 1.\n");
+        return;
+    }
     say(b"The file has ");
     say_number(assignments as u64);
-    say(b" assignments. K is a number from 1 to ");
+    say(b" assignments, so K is from 1 to ");
     say_number((assignments - 1) as u64);
     say(b".\n");
 }

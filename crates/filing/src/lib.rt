@@ -51,7 +51,7 @@ pub fn ended(fd: i32, name: &[u8]) -> bool {
     if 0 < left {
         say(b"trouble with ");
         say(name);
-        say(b": it has more than 16,200,000 bytes, which are 200,000 records\n");
+        say(b": it is too long, a file has at most 200,000 records\n");
         return false;
     }
     true

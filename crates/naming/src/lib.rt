@@ -28,7 +28,18 @@ fn ending_of(m: [u8; 7], word: [u8; 3]) -> [u8; 12]
     ensures { λ x. ⌜ x ≡ endingOf m word ⌝ }
 {
     [
-        46, m[0], m[1], m[2], m[3], m[4], m[5], m[6], 46, word[0], word[1], word[2],
+        46,
+        m[0],
+        m[1],
+        m[2],
+        m[3],
+        m[4],
+        m[5],
+        m[6],
+        46,
+        word[0],
+        word[1],
+        word[2],
     ]
 }
 

@@ -35,7 +35,12 @@ use Rattle.laws.proofs.Joining.{joined-fits, joined-bytes}
 use Rattle.laws.proofs.Parting.{parted-fits, parted-bytes}
 use Rattle.laws.proofs.Slices.{bodyIn, body-is, long-enough}
 use Rattle.running.proofs.Records.{rest, rest-next, rest-end, rest-start, part-is}
-use Rattle.outputs.specs.Filled.{Filled}
+use Rattle.io.specs.Counts.{Counts}
+use Rattle.outputs.specs.Filled.{Filled, Closed, Joined, PartedTo}
+use Rattle.outputs.specs.declared.Output.{Output}
+use Rattle.outputs.specs.declared.Output.the-variants.{File}
+use Rattle.outputs.specs.declared.Parts.{Parts}
+use Rattle.outputs.specs.declared.Parts.the-variants.{Files}
 
 -- ---- an output that was written over its start
 filled : (w d out : List ℕ) (n : ℕ) → out ≡ w ++ drop (length w) d → length w ≤ length d → n ≡ length w → Filled w out n
@@ -149,3 +154,16 @@ module _ (day : ProcessDay) (b : List ℕ) (k : ℕ) (out1 out2 : List ℕ) (h :
       let w = parted-bytes day b k out1 out2 h in
       let s = first-size day b (its .figures) k n (its .accepted) p l in
       (filled (firstPart k b) out1 after1 (81 * n + 162) (e1 ∙ w .0) (f .1) (sym s), filled (secondPart k b) out2 after2 (length b + 162 - (81 * n + 162)) (e2 ∙ w .1) (f .2) (omega (arith, f .0, s)))
+
+-- ---- what a caller takes: so many bytes are there
+pub closed-counts : (day : ProcessDay) (d : List ℕ) (room : ℕ) (out : List ℕ) (x : Output) (n : ℕ) (t : Totals) → Closed day d room out x → x ≡ File n t → Counts n out
+unfolding Closed
+closed-counts day d room out x n t h e = (subst (Closed day d room out) e h) .1 .0
+
+pub joined-counts : (day : ProcessDay) (a b : List ℕ) (room : ℕ) (out : List ℕ) (x : Output) (n : ℕ) (t : Totals) → Joined day a b room out x → x ≡ File n t → Counts n out
+unfolding Joined
+joined-counts day a b room out x n t h e = (subst (Joined day a b room out) e h) .1 .0
+
+pub parts-count : (day : ProcessDay) (b : List ℕ) (k room1 room2 : ℕ) (out1 out2 : List ℕ) (x : Parts) (n m : ℕ) → PartedTo day b k room1 room2 out1 out2 x → x ≡ Files n m → Counts n out1 × Counts m out2
+unfolding PartedTo
+parts-count day b k room1 room2 out1 out2 x n m h e = let v = subst (PartedTo day b k room1 room2 out1 out2) e h in (v .1 .0, v .2 .0)

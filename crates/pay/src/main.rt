@@ -155,11 +155,11 @@ fn run(first: &mut [u8], second: &mut [u8], third: &mut [u8]) {
     read_first(&name[..n], first, second, third);
 }
 
-fn with_room(first: &mut [u8; 16200000], second: &mut [u8; 16200000], third: &mut [u8; 16200000]) {
+fn with_room(first: &mut [u8; 16200081], second: &mut [u8; 16200081], third: &mut [u8; 16200081]) {
     run(first, second, third);
 }
 
-// Room for three files of full size, in a frame of its own: a function that calls itself is not merged into its caller, so
+// Room for three files of full size and a record more, which the rules refuse, in a frame of its own: a function that calls itself is not merged into its caller, so
 // that help and wrong usage need no large stack. It never does call itself: no command line has a million words.
 fn hold(again: u64) {
     if 0 < again {
@@ -167,9 +167,9 @@ fn hold(again: u64) {
         telling::end_line();
         return;
     }
-    let mut first = [0u8; 16200000];
-    let mut second = [0u8; 16200000];
-    let mut third = [0u8; 16200000];
+    let mut first = [0u8; 16200081];
+    let mut second = [0u8; 16200081];
+    let mut third = [0u8; 16200081];
     with_room(&mut first, &mut second, &mut third);
 }
 

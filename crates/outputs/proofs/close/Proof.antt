@@ -1,3 +1,4 @@
+use Rattle.outputs.specs.Filled.{Closed}
 use Rattle.outputs.proofs.Sizes.{closed-filled}
 use mathlib.Core.Path.{sym, _∙_}
 use borrow.Author.Needs.{needs}
@@ -24,12 +25,14 @@ same-length : tie.Need-same-length
 same-length c = search needs
 
 returns : tie.Need-returns
+unfolding Closed
 returns c = sym (c .before .before .before .before .before .close .ensures .0) ∙ c .before .refusal .given .1
 
 same-length-2 : tie.Need-same-length-2
 same-length-2 c = search needs
 
 returns-2 : tie.Need-returns-2
+unfolding Closed
 returns-2 c =
     let e = sym (c .before .before .before .before .before .before .close .ensures .0) ∙ c .before .before .t .given .1 in
     (e, closed-filled _ _ _ _ _ _ e (c .before .before .before .before .before .before .close .ensures .1) (c .size-of .ensures))

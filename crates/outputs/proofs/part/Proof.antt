@@ -1,3 +1,4 @@
+use Rattle.outputs.specs.Filled.{PartedTo}
 use Rattle.outputs.proofs.Sizes.{long, parts-filled}
 use native.Mathlib.Omega.{arith}
 use lib.ListN.{length}
@@ -54,6 +55,7 @@ same-length-2 : tie.Need-same-length-2
 same-length-2 c = search needs
 
 returns : tie.Need-returns
+unfolding PartedTo
 returns c = sym (c .before .before .before .before .before .before .before .part .ensures .0) ∙ c .before .refusal .given .1
 
 same-length-3 : tie.Need-same-length-3
@@ -63,6 +65,7 @@ same-length-4 : tie.Need-same-length-4
 same-length-4 c = search needs
 
 returns-2 : tie.Need-returns-2
+unfolding PartedTo
 returns-2 c =
     let p = c .before .before .before .before .before .before .before .before .part in
     let e = sym (p .ensures .0) ∙ c .before .before .enum-told .given .1 in
