@@ -97,11 +97,11 @@ fn say_allowed(a: Allowed) {
     say(b" may stand here.\n");
 }
 
-// A draft has no end records: closing puts them.
+// A draft has no end records: closing adds them.
 fn say_of_draft(mode: Mode) {
     match mode {
         Mode::File => say(b""),
-        Mode::Draft => say(b"A draft has no records 88 and 89: closing puts them.\n"),
+        Mode::Draft => say(b"A draft has no records 88 and 89: closing adds them.\n"),
     }
 }
 

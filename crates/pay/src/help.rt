@@ -24,7 +24,7 @@ pub fn help() {
 
 fn help_commands() {
     say(b"pay check DDMMYY FILE               Is the file as the clearing house wants it?\n");
-    say(b"pay close DDMMYY DRAFT OUT          Puts the end records 88 and 89 to a draft.\n");
+    say(b"pay close DDMMYY DRAFT OUT          Adds the end records 88 and 89 to a draft.\n");
     say(b"pay join  DDMMYY FIRST SECOND OUT   Makes one file of two.\n");
     say(b"pay part  DDMMYY FILE K OUT1 OUT2   Makes two of one: OUT1 gets K assignments.\n");
     say(b"pay help                            Prints this page.\n");

@@ -12,14 +12,12 @@ use rules::Refusal;
 use rules::Verdict;
 
 fn tell_accepted(t: Totals) {
-    telling::print_totals(t);
-    telling::end_line();
+    telling::print_check(Verdict::Accepted(t));
 }
 
 // The machine's line of a refusal, and what it means.
 fn tell_refused(x: Refusal, mode: Mode, file: &[u8]) {
-    telling::print_refusal(x.number as u64, x.record, x.field as u64);
-    telling::end_line();
+    telling::print_check(Verdict::Refused(x));
     explaining::explain(x, mode, file);
 }
 
@@ -48,7 +46,7 @@ fn close(draft: &[u8], out: &mut [u8]) {
 
 // The machine's line of a refused joining, which also says which file, and what it means.
 fn tell_not_joined(x: Refusal, file: &[u8]) {
-    telling::print_refusal(x.number as u64, x.record, x.field as u64);
+    telling::print_answer(Verdict::Refused(x));
     telling::print_number(x.operand as u64);
     telling::end_line();
     explaining::explain(x, Mode::File, file);
