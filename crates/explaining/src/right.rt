@@ -22,9 +22,9 @@ fn say_digits(n: u64, width: usize) {
 fn say_choice(choice: Choice) {
     match choice {
         Choice::Services => say(b"01 or 04"),
-        Choice::ClaimTypes => say(b"For service 01, 02 or 03"),
+        Choice::ClaimTypes => say(b"02 or 03 (service 01)"),
         Choice::RemittanceTypes => say(
-            b"For service 04, 01, 02, 03, 04, 12, 16, 18, 32, 37, 62, 65 or 66",
+            b"01, 02, 03, 04, 12, 16, 18, 32, 37, 62, 65 or 66 (service 04)",
         ),
         Choice::SpecificationTypes => say(b"16 or 17"),
         Choice::Lines => say(b"001 to 021"),

@@ -1,2 +1,3 @@
 pub mod Grow
 pub mod Sound
+pub mod Values
