@@ -5,8 +5,7 @@ use libc::STDIN_FILENO;
 use libc::STDOUT_FILENO;
 
 fn no_day() {
-    telling::print_refusal(1, 0, 0);
-    telling::end_line();
+    telling::print_check(checking::refuse(1));
 }
 
 // All that came: the line of seven bytes, and behind it at most 64,800.

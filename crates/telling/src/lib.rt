@@ -2,6 +2,7 @@
 
 ghost use mathlib.Core.Path.{_≡_};
 ghost use Rattle.telling.specs.Days.{dayWritten};
+ghost use Rattle.telling.specs.Words.{wordFor};
 use dates::Date;
 use dates::ProcessDay;
 use figures::totals::Totals;
@@ -38,14 +39,23 @@ pub fn end_line() {
     io::write_all(STDOUT_FILENO, b"\n");
 }
 
+// The word that an answer begins with, and that decides the status of the office's tool.
+fn word_of(verdict: Verdict) -> [u8; 8]
+    ensures { λ x. ⌜ x ≡ wordFor verdict ⌝ }
+{
+    match verdict {
+        Verdict::Accepted(_t) => [97, 99, 99, 101, 112, 116, 101, 100],
+        Verdict::Refused(_x) => [114, 101, 102, 117, 115, 101, 100, 32],
+    }
+}
+
 // The five figures of an accepted file.
-pub fn print_totals(t: Totals) {
+fn print_figures(t: Totals) {
     let assignments = t.assignments;
     let transactions = t.transactions;
     let records = t.records;
     let sum = t.sum;
     let first = t.first;
-    io::write_all(STDOUT_FILENO, b"accepted");
     print_number(assignments.0 as u64);
     print_number(transactions.0 as u64);
     print_number(records.0 as u64);
@@ -54,20 +64,19 @@ pub fn print_totals(t: Totals) {
 }
 
 // A refusal's number, record and field.
-pub fn print_refusal(number: u64, record: u64, field: u64) {
-    io::write_all(STDOUT_FILENO, b"refused");
-    print_number(number);
-    print_number(record);
-    print_number(field);
+fn print_place(x: Refusal) {
+    io::print_decimal(STDOUT_FILENO, x.number as u64);
+    print_number(x.record);
+    print_number(x.field as u64);
 }
 
 // An answer as document 01's program prints it, without the line's end.
 pub fn print_answer(verdict: Verdict) {
+    let word = word_of(verdict);
+    io::write_all(STDOUT_FILENO, &word);
     match verdict {
-        Verdict::Accepted(t) => print_totals(t),
-        Verdict::Refused(x) => {
-            print_refusal(x.number as u64, x.record, x.field as u64);
-        }
+        Verdict::Accepted(t) => print_figures(t),
+        Verdict::Refused(x) => print_place(x),
     }
 }
 

@@ -97,9 +97,7 @@ fn print_parting(parting: Parting) {
         Parting::Parted => {
             io::write_all(STDOUT_FILENO, b"parted");
         }
-        Parting::NotParted(x) => {
-            telling::print_refusal(x.number as u64, x.record, x.field as u64);
-        }
+        Parting::NotParted(x) => telling::print_answer(Verdict::Refused(x)),
     }
 }
 

@@ -1,0 +1,84 @@
+use Rattle.outputs.proofs.Sizes.{parts-count}
+use borrow.Author.Needs.{needs}
+use Rattle.pay.proofs.part.Statement.{statement}
+use Rattle.pay.proofs.part.Tie as tie
+use Rattle.pay.proofs.part.Reads as reads
+use Rattle.pay.proofs.part.Lts as lts
+use Rattle.outputs.proofs.part.Reads as part-reads
+use Rattle.pay.proofs.asked.boundary.Reads as boundary-reads
+use Rattle.pay.proofs.asked.day.Reads as day-reads
+use Rattle.pay.proofs.keep_parts.Reads as keep-parts-reads
+use Rattle.pay.proofs.tell_not_parted.Reads as tell-not-parted-reads
+
+day-requires : tie.Need-day-requires
+day-requires c κs = search needs
+
+boundary-requires : tie.Need-boundary-requires
+boundary-requires c κs = search needs
+
+part-requires : tie.Need-part-requires
+part-requires c κs = search needs
+
+enum-known-x : tie.Need-enum-known-x
+enum-known-x c = search needs
+
+tell-not-parted-requires : tie.Need-tell-not-parted-requires
+tell-not-parted-requires c κs = search needs
+
+enum-known-a : tie.Need-enum-known-a
+enum-known-a c = search needs
+
+slice-reshare-prefix-keep-parts : tie.Need-slice-reshare-prefix-keep-parts
+slice-reshare-prefix-keep-parts c = parts-count _ _ _ _ _ _ _ _ _ _ (c .before .before .before .before .before .before .before .part .ensures) (c .before .a .given .1) .0 .0
+
+slice-aggregate-keep-parts : tie.Need-slice-aggregate-keep-parts
+slice-aggregate-keep-parts c = parts-count _ _ _ _ _ _ _ _ _ _ (c .before .before .before .before .before .before .before .before .part .ensures) (c .before .before .a .given .1) .0 .1
+
+slice-reshare-prefix-keep-parts-2 : tie.Need-slice-reshare-prefix-keep-parts-2
+slice-reshare-prefix-keep-parts-2 c = parts-count _ _ _ _ _ _ _ _ _ _ (c .before .before .before .before .before .before .before .before .part .ensures) (c .before .before .a .given .1) .1 .0
+
+slice-aggregate-keep-parts-2 : tie.Need-slice-aggregate-keep-parts-2
+slice-aggregate-keep-parts-2 c = parts-count _ _ _ _ _ _ _ _ _ _ (c .before .before .before .before .before .before .before .before .before .part .ensures) (c .before .before .before .a .given .1) .1 .1
+
+keep-parts-requires : tie.Need-keep-parts-requires
+keep-parts-requires c κs = search needs
+
+same-length : tie.Need-same-length
+same-length c = search needs
+
+same-length-2 : tie.Need-same-length-2
+same-length-2 c = search needs
+
+returns : tie.Need-returns
+returns c = search needs
+
+same-length-3 : tie.Need-same-length-3
+same-length-3 c = search needs
+
+same-length-4 : tie.Need-same-length-4
+same-length-4 c = search needs
+
+returns-2 : tie.Need-returns-2
+returns-2 c = search needs
+
+pub part-spec : {M : Type 1} → statement M
+part-spec =
+    tie.close
+    (tie.spec
+    day-requires
+    boundary-requires
+    part-requires
+    enum-known-x
+    tell-not-parted-requires
+    enum-known-a
+    slice-reshare-prefix-keep-parts
+    slice-aggregate-keep-parts
+    slice-reshare-prefix-keep-parts-2
+    slice-aggregate-keep-parts-2
+    keep-parts-requires
+    same-length
+    same-length-2
+    returns
+    same-length-3
+    same-length-4
+    returns-2)

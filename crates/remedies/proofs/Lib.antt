@@ -1,0 +1,3 @@
+pub mod Grow
+pub mod Sound
+pub mod Values
