@@ -246,11 +246,15 @@ fn keep_figures(t: AssignmentTotals, figures: &mut [u64], used: usize)
 }
 
 // Before a record 20 is taken: keeps the figures of what it ends. The state behind it has them no more.
+// Every record is asked, so the two bytes of its type are looked at as they stand: 2 and 0.
 fn keep_ended(r: &[u8], t: AssignmentTotals, figures: &mut [u64], used: usize)
     requires { ⌜ (length (now r) ≡ 81) × (used ≤ 500) ⌝ }
     ensures { λ _. ⌜ Noted (now (r .entry)) t used (now (figures .entry)) (now (figures .exit)) ⌝ }
 {
-    if fields::places::code_at(r, 7) != 20 {
+    if r[6] != 50 {
+        return;
+    }
+    if r[7] != 48 {
         return;
     }
     keep_figures(t, figures, used);
