@@ -1,3 +1,5 @@
+-- 1, then the draft's own refusal, then 19; nothing is written before all is judged.
+-- Assumes nothing.
 use mathlib.Core.Path.{refl}
 use native.Mathlib.Omega.{arith}
 use Rattle.summing.proofs.Held.{roomy}

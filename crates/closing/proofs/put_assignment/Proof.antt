@@ -1,3 +1,5 @@
+-- The assignment's bytes as they stand, and its end directly behind them.
+-- Assumes nothing.
 use mathlib.Core.Path.{refl}
 use Rattle.closing.proofs.Files.{assignment-put}
 use borrow.Author.Needs.{needs}

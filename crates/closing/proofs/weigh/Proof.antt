@@ -1,3 +1,5 @@
+-- 2, then 3, then what the records give; only a refused draft has its records 20 counted.
+-- Assumes nothing.
 use mathlib.Core.Path.{refl, sym, _∙_}
 use native.Mathlib.Omega.{arith}
 use Rattle.closing.proofs.Answers.{wrong-length, full, too-many-opened, on-refused, too-many-closed, on-accepted, can-close, leaves-none, leaves-figures}

@@ -1,3 +1,5 @@
+-- Both lengths are judged before either part is written.
+-- Assumes nothing.
 use mathlib.Core.Path.{sym, subst}
 use native.Mathlib.Omega.{arith}
 use Rattle.growth.specs.Bounds.{Bounded}

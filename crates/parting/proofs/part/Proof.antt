@@ -1,3 +1,5 @@
+-- The check's refusals, then 21, then 19.
+-- Assumes nothing.
 use mathlib.Core.Path.{refl, sym, _∙_}
 use native.Mathlib.Omega.{arith}
 use Rattle.summing.proofs.Held.{roomy}

@@ -1,3 +1,5 @@
+-- The record 10 before, the 89 behind.
+-- Assumes nothing.
 use mathlib.Core.Path.{ap, _∙_}
 use Rattle.figures.specs.Totals.{_⊕_, oneRecord}
 use Rattle.figures.specs.declared.totals.Totals.{Totals}

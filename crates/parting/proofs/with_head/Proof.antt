@@ -1,3 +1,5 @@
+-- Nothing, the record 10, then the figures.
+-- Assumes nothing.
 use mathlib.Core.Path.{ap, _∙_}
 use Rattle.figures.specs.Totals.{_⊕_}
 use Rattle.figures.specs.declared.totals.Totals.{Totals}

@@ -1,3 +1,5 @@
+-- Five numbers, each from its place.
+-- Assumes nothing.
 use Rattle.summing.specs.Sums.{entry}
 use mathlib.Core.Path.{refl}
 use borrow.Author.Needs.{needs}

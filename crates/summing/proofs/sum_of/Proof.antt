@@ -1,3 +1,5 @@
+-- What is added so far, with what is to come, is the whole.
+-- Assumes nothing.
 use Rattle.summing.proofs.Adding.{Adding, adding-none, added-all, has-room, adding-next}
 use native.Mathlib.Omega.{arith}
 use Prim.Native.Nat.{_-_}
