@@ -3,8 +3,8 @@
 use mathlib.Core.Path.{refl}
 use borrow.Author.Needs.{needs}
 use Rattle.rules.specs.Messages.{taken}
-use Rattle.details.proofs.is_taken.Statement.{statement}
-use Rattle.details.proofs.is_taken.Tie as tie
+use Rattle.messages.proofs.is_taken.Statement.{statement}
+use Rattle.messages.proofs.is_taken.Tie as tie
 
 shr-result : tie.Need-shr-result
 shr-result c = search needs

@@ -1,8 +1,8 @@
 -- Type 16 specifies, every other type credits.
 -- Assumes nothing.
 use borrow.Author.Tests.{eq-eqb, ne-eqb}
-use Rattle.details.proofs.sum_for.Statement.{statement}
-use Rattle.details.proofs.sum_for.Tie as tie
+use Rattle.specifications.proofs.sum_for.Statement.{statement}
+use Rattle.specifications.proofs.sum_for.Tie as tie
 
 returns : tie.Need-returns
 returns c = simp (eq-eqb _ _ (c .before .if1 .taken))

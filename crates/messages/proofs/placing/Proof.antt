@@ -12,12 +12,12 @@ use Rattle.layout.specs.declared.Finding.the-variants.{Sound}
 use Rattle.layout.proofs.Laws.{demands}
 use Rattle.rules.specs.Messages.{placeIn, taken, withPlace}
 use Rattle.rules.specs.Payments.{isLine, isColumn}
-use Rattle.details.specs.Pieces.{upTo, place49}
-use Rattle.details.proofs.Bounds.{up-to-yes, bounded, above-zero, line-test, column-test}
+use Rattle.messages.specs.Pieces.{upTo, place49}
+use Rattle.messages.proofs.Bounds.{up-to-yes, bounded, above-zero, line-test, column-test}
 use Rattle.layout.proofs.Laws.{demanded-both}
-use Rattle.details.proofs.Soundness.{counts-behind}
-use Rattle.details.proofs.placing.Statement.{statement}
-use Rattle.details.proofs.placing.Tie as tie
+use Rattle.messages.proofs.Soundness.{counts-behind}
+use Rattle.messages.proofs.placing.Statement.{statement}
+use Rattle.messages.proofs.placing.Tie as tie
 
 -- what line and column say of the record
 module _ (r : List ℕ) where

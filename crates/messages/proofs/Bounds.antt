@@ -11,7 +11,7 @@ use Rattle.fields.specs.Bytes.{every, isDigit}
 use Rattle.fields.specs.Numbers.{value}
 use Rattle.fields.proofs.Tests.{and-left, and-right}
 use Rattle.rules.specs.Payments.{isLine, isColumn}
-use Rattle.details.specs.Pieces.{isUpTo, upTo}
+use Rattle.messages.specs.Pieces.{isUpTo, upTo}
 
 module _ (most : ℕ) (s : List ℕ) where
   pub up-to-yes : isUpTo most s ≡ true → upTo most s ≡ value s

@@ -2,9 +2,9 @@
 -- Assumes nothing.
 use borrow.Author.Needs.{needs}
 use Rattle.layout.proofs.Laws.{digits-pass, digits-fail, value-is}
-use Rattle.details.proofs.Bounds.{no-digits, too-large, in-bound}
-use Rattle.details.proofs.number_up_to.Statement.{statement}
-use Rattle.details.proofs.number_up_to.Tie as tie
+use Rattle.messages.proofs.Bounds.{no-digits, too-large, in-bound}
+use Rattle.messages.proofs.number_up_to.Statement.{statement}
+use Rattle.messages.proofs.number_up_to.Tie as tie
 
 number-at-requires : tie.Need-number-at-requires
 number-at-requires c κs = search needs

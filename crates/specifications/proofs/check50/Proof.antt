@@ -5,11 +5,11 @@ use mathlib.Core.List.{List, [], _∷_}
 use borrow.Author.Needs.{needs}
 use Rattle.layout.specs.Rules.{kid, zeros}
 use Rattle.layout.specs.Rows.{Row, at}
-use Rattle.details.specs.Pieces.{head50, sum50}
+use Rattle.specifications.specs.Pieces.{head50, sum50}
 use Rattle.layout.proofs.Laws.{or-else-both, demanded-both}
-use Rattle.details.proofs.Soundness.{around}
-use Rattle.details.proofs.check50.Statement.{statement}
-use Rattle.details.proofs.check50.Tie as tie
+use Rattle.common.proofs.Around.{around}
+use Rattle.specifications.proofs.check50.Statement.{statement}
+use Rattle.specifications.proofs.check50.Tie as tie
 
 specifying-requires : tie.Need-specifying-requires
 specifying-requires c κs = search needs

@@ -11,8 +11,8 @@ use Rattle.layout.specs.declared.Finding.the-variants.{Sound}
 use Rattle.layout.proofs.Laws.{next, stop, demands, digits-pass, digits-fail, value-is}
 use Rattle.rules.specs.Codes.{typeCode}
 use Rattle.layout.proofs.Laws.{fault-not-sound}
-use Rattle.details.proofs.specifying.Statement.{statement}
-use Rattle.details.proofs.specifying.Tie as tie
+use Rattle.specifications.proofs.specifying.Statement.{statement}
+use Rattle.specifications.proofs.specifying.Tie as tie
 
 number-at-requires : tie.Need-number-at-requires
 number-at-requires c κs = search needs

@@ -10,9 +10,9 @@ use Rattle.layout.specs.Rules.{listed}
 use Rattle.layout.specs.Rows.{Row, at, firstFault}
 use Rattle.layout.proofs.Laws.{pieces, rows-behind}
 use Rattle.rules.specs.Layouts.{belongs, sameNumber}
-use Rattle.details.proofs.Soundness.{two-listed}
-use Rattle.details.proofs.heading.Statement.{statement}
-use Rattle.details.proofs.heading.Tie as tie
+use Rattle.specifications.proofs.Listed.{two-listed}
+use Rattle.specifications.proofs.heading.Statement.{statement}
+use Rattle.specifications.proofs.heading.Tie as tie
 
 belonging-requires : tie.Need-belonging-requires
 belonging-requires c κs = search needs

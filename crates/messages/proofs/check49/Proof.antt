@@ -6,11 +6,11 @@ use borrow.Author.Needs.{needs}
 use Rattle.layout.specs.Rules.{fixed, textual, zeros}
 use Rattle.layout.specs.Rows.{Row, at}
 use Rattle.rules.specs.Layouts.{repeats}
-use Rattle.details.specs.Pieces.{place49}
+use Rattle.messages.specs.Pieces.{place49}
 use Rattle.layout.proofs.Laws.{or-else-both, demanded-both}
-use Rattle.details.proofs.Soundness.{around}
-use Rattle.details.proofs.check49.Statement.{statement}
-use Rattle.details.proofs.check49.Tie as tie
+use Rattle.common.proofs.Around.{around}
+use Rattle.messages.proofs.check49.Statement.{statement}
+use Rattle.messages.proofs.check49.Tie as tie
 
 placing-requires : tie.Need-placing-requires
 placing-requires c κs = search needs

@@ -8,8 +8,8 @@ use lib.Bits.{bitOr}
 use lib.Dec.{lit<}
 use lib.Pow.{shl-exact}
 use Rattle.rules.specs.Messages.{withPlace}
-use Rattle.details.proofs.with_place.Statement.{statement}
-use Rattle.details.proofs.with_place.Tie as tie
+use Rattle.messages.proofs.with_place.Statement.{statement}
+use Rattle.messages.proofs.with_place.Tie as tie
 
 shl-result : tie.Need-shl-result
 shl-result c = search needs
