@@ -10,7 +10,7 @@ use Rattle.fields.specs.Bytes.{every, isDigit, part}
 use Rattle.fields.specs.Numbers.{value}
 use Rattle.fields.proofs.Values.{number-yes}
 use Rattle.fields.proofs.Width.{below-at}
-use Rattle.payments.proofs.Days.{pairs-pass, pairs-fail}
+use Rattle.payment_values.proofs.Days.{pairs-pass, pairs-fail}
 use borrow.Author.Needs.{needs}
 use Rattle.dates.specs.Windows.{inTime}
 use Rattle.dates.specs.declared.Date.{Date}
@@ -19,8 +19,8 @@ use Rattle.layout.specs.declared.Finding.the-variants.{Sound}
 use Rattle.layout.proofs.Laws.{next, stop, demands}
 use Rattle.rules.specs.Payments.{isDay, theDate}
 use Rattle.layout.proofs.Laws.{fault-not-sound}
-use Rattle.payments.proofs.date.Statement.{statement}
-use Rattle.payments.proofs.date.Tie as tie
+use Rattle.payment_values.proofs.date.Statement.{statement}
+use Rattle.payment_values.proofs.date.Tie as tie
 
 six-digits : (r : List ℕ) → length r ≡ 81 → every isDigit (part 16 21 r) ≡ true → value (part 16 21 r) < 1000000
 six-digits r h e = below-at 16 21 r _ (omega arith) (number-yes (part 16 21 r) e)

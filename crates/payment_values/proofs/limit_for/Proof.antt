@@ -1,8 +1,8 @@
 -- The limit of an assignment's sum, by its service.
 -- Assumes nothing.
 use borrow.Author.Needs.{needs}
-use Rattle.payments.proofs.limit_for.Statement.{statement}
-use Rattle.payments.proofs.limit_for.Tie as tie
+use Rattle.payment_values.proofs.limit_for.Statement.{statement}
+use Rattle.payment_values.proofs.limit_for.Tie as tie
 
 enum-told : tie.Need-enum-told
 enum-told c = search needs

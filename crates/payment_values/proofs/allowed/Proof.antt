@@ -2,8 +2,8 @@
 -- Assumes nothing.
 use borrow.Author.Tests.{ne-eqb}
 use Rattle.rules.specs.Payments.{ownLimit}
-use Rattle.payments.proofs.allowed.Statement.{statement}
-use Rattle.payments.proofs.allowed.Tie as tie
+use Rattle.payment_values.proofs.allowed.Statement.{statement}
+use Rattle.payment_values.proofs.allowed.Tie as tie
 
 returns : tie.Need-returns
 unfolding ownLimit

@@ -2,8 +2,8 @@
 -- Assumes nothing.
 use borrow.Author.Tests.{ne-eqb}
 use borrow.Author.Needs.{needs}
-use Rattle.payments.proofs.referred.Statement.{statement}
-use Rattle.payments.proofs.referred.Tie as tie
+use Rattle.payment_fields.proofs.referred.Statement.{statement}
+use Rattle.payment_fields.proofs.referred.Tie as tie
 
 reference-at-requires : tie.Need-reference-at-requires
 reference-at-requires c κs = search needs

@@ -11,8 +11,8 @@ use Rattle.layout.proofs.Laws.{next, stop, demands, digits-pass, digits-fail, v
 use Rattle.rules.specs.Codes.{typeCode}
 use Rattle.rules.specs.Payments.{ownLimit, limitFor}
 use Rattle.layout.proofs.Laws.{fault-not-sound}
-use Rattle.payments.proofs.amount.Statement.{statement}
-use Rattle.payments.proofs.amount.Tie as tie
+use Rattle.payment_values.proofs.amount.Statement.{statement}
+use Rattle.payment_values.proofs.amount.Tie as tie
 
 number-at-requires : tie.Need-number-at-requires
 number-at-requires c κs = search needs

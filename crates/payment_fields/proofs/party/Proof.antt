@@ -17,9 +17,9 @@ use Rattle.layout.proofs.Laws.{demands}
 use Rattle.rules.specs.Codes.{serviceCode, typeCode}
 use Rattle.rules.specs.Payments.{partyForm, partyRight}
 use Rattle.rules.specs.Layouts.{party30}
-use Rattle.payments.proofs.Stages.{excused, number-in-account, right-digits}
-use Rattle.payments.proofs.party.Statement.{statement}
-use Rattle.payments.proofs.party.Tie as tie
+use Rattle.payment_fields.proofs.Accounts.{excused, number-in-account, right-digits}
+use Rattle.payment_fields.proofs.party.Statement.{statement}
+use Rattle.payment_fields.proofs.party.Tie as tie
 
 -- the two rows as the code tests them
 as-code : (f : Totals) (ks r : List ℕ)

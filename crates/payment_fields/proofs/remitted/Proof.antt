@@ -2,9 +2,9 @@
 -- Assumes nothing.
 use native.Mathlib.Omega.{arith}
 use borrow.Author.Needs.{needs}
-use Rattle.payments.proofs.Types.{types-by-bits}
-use Rattle.payments.proofs.remitted.Statement.{statement}
-use Rattle.payments.proofs.remitted.Tie as tie
+use Rattle.payment_fields.proofs.Types.{types-by-bits}
+use Rattle.payment_fields.proofs.remitted.Statement.{statement}
+use Rattle.payment_fields.proofs.remitted.Tie as tie
 
 cast-result : tie.Need-cast-result
 cast-result c = search needs

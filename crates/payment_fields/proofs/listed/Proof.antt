@@ -2,9 +2,9 @@
 -- Assumes nothing.
 use borrow.Author.Tests.{eq-eqb, ne-eqb}
 use borrow.Author.Needs.{needs}
-use Rattle.payments.proofs.Types.{types01, types04}
-use Rattle.payments.proofs.listed.Statement.{statement}
-use Rattle.payments.proofs.listed.Tie as tie
+use Rattle.payment_fields.proofs.Types.{types01, types04}
+use Rattle.payment_fields.proofs.listed.Statement.{statement}
+use Rattle.payment_fields.proofs.listed.Tie as tie
 
 returns : tie.Need-returns
 returns c = types01 _ _ (eq-eqb _ _ (c .if1 .taken))

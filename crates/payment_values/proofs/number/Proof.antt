@@ -13,8 +13,8 @@ use Rattle.layout.specs.Findings.{demanded}
 use Rattle.layout.specs.declared.Finding.the-variants.{Sound}
 use Rattle.layout.proofs.Laws.{next, stop, demands, digits-pass, digits-fail, value-is}
 use Rattle.layout.proofs.Laws.{fault-not-sound}
-use Rattle.payments.proofs.number.Statement.{statement}
-use Rattle.payments.proofs.number.Tie as tie
+use Rattle.payment_values.proofs.number.Statement.{statement}
+use Rattle.payment_values.proofs.number.Tie as tie
 
 inside : (r : List ℕ) → length r ≡ 81 → Inside 9 15 r
 inside r h = omega arith

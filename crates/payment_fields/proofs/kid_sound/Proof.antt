@@ -4,14 +4,14 @@ use mathlib.Core.Path.{sym}
 use borrow.Author.Tests.{ne-eqb}
 use Rattle.rules.specs.Payments.{kidForm}
 use borrow.Author.Needs.{needs}
-use Rattle.payments.proofs.kid_sound.Statement.{statement}
-use Rattle.payments.proofs.kid_sound.Tie as tie
-use Rattle.payments.proofs.kid_sound.Reads as reads
-use Rattle.payments.proofs.kid_sound.Lts as lts
+use Rattle.payment_fields.proofs.kid_sound.Statement.{statement}
+use Rattle.payment_fields.proofs.kid_sound.Tie as tie
+use Rattle.payment_fields.proofs.kid_sound.Reads as reads
+use Rattle.payment_fields.proofs.kid_sound.Lts as lts
 use Rattle.fields.proofs.places.all_at.Reads as all-at-reads
 use Rattle.fields.proofs.places.code_at.Reads as code-at-reads
 use Rattle.fields.proofs.places.kid_at.Reads as kid-at-reads
-use Rattle.payments.proofs.charge_kid.Reads as charge-kid-reads
+use Rattle.payment_fields.proofs.charge_kid.Reads as charge-kid-reads
 
 all-at-requires : tie.Need-all-at-requires
 all-at-requires c κs = search needs

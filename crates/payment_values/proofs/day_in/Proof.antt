@@ -1,10 +1,10 @@
 use mathlib.Core.Path.{_∙_}
-use Rattle.payments.proofs.Days.{day-by-pairs}
+use Rattle.payment_values.proofs.Days.{day-by-pairs}
 use borrow.Author.Needs.{needs}
-use Rattle.payments.proofs.day_in.Statement.{statement}
-use Rattle.payments.proofs.day_in.Tie as tie
-use Rattle.payments.proofs.day_in.Reads as reads
-use Rattle.payments.proofs.day_in.Lts as lts
+use Rattle.payment_values.proofs.day_in.Statement.{statement}
+use Rattle.payment_values.proofs.day_in.Tie as tie
+use Rattle.payment_values.proofs.day_in.Reads as reads
+use Rattle.payment_values.proofs.day_in.Lts as lts
 use Rattle.dates.proofs.day_of.Reads as day-of-reads
 
 add-day-of : tie.Need-add-day-of
