@@ -1,4 +1,1 @@
-pub mod Bounds
 pub mod Inner
-pub mod Places
-pub mod Soundness

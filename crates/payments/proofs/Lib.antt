@@ -1,3 +1,1 @@
-pub mod Types
-pub mod Days
 pub mod Stages

@@ -1,4 +1,4 @@
--- Document 01, "Layouts", record 30: what its number, its date and its amount are found to be, and what the whole record brings where it is sound.
+-- Document 01, "Layouts", record 30: what the whole record brings where it is sound.
 -- Assumes nothing.
 use Prim.Native.Nat.{ℕ}
 use mathlib.Core.Path.{_≡_}
@@ -14,27 +14,9 @@ use Rattle.layout.specs.Rows.{Row, at, firstFault}
 use Rattle.rules.specs.Codes.{serviceCode, typeCode}
 use Rattle.layout.specs.declared.Finding.the-variants.{Sound}
 use Rattle.rules.specs.Payments.{dateIn, amountIn, kidFor}
-use Rattle.rules.specs.Layouts.{number30, date30, party30, amount30, record30}
+use Rattle.rules.specs.Layouts.{date30, party30, amount30, record30}
 use Rattle.rules.specs.declared.Assignment.{Assignment}
 use Rattle.payments.specs.declared.Paid.{Paid}
-use Rattle.payments.specs.declared.Numbered.{Numbered}
-use Rattle.payments.specs.declared.Dated.{Dated}
-use Rattle.payments.specs.declared.Priced.{Priced}
-
--- field 5
-pub record NumberedBy (a : Assignment) (r : List ℕ) (x : Numbered) : Type 0 where
-  pub finding : (f : Totals) (ks : List ℕ) → x .finding ≡ firstFault f ks r (number30 a r)
-  pub number : x .finding ≡ Sound → x .number ≡ transactionNumber (value (part 9 15 r))
-
--- field 6
-pub record DatedBy (w : Window) (a : Assignment) (r : List ℕ) (x : Dated) : Type 0 where
-  pub finding : (f : Totals) (ks : List ℕ) → x .finding ≡ firstFault f ks r (date30 w a r)
-  pub date : x .finding ≡ Sound → x .date ≡ dateIn r
-
--- field 8
-pub record PricedBy (a : Assignment) (f : Totals) (r : List ℕ) (x : Priced) : Type 0 where
-  pub finding : (ks : List ℕ) → x .finding ≡ firstFault f ks r (amount30 a r)
-  pub amount : x .finding ≡ Sound → x .amount ≡ amountIn r
 
 -- fields 9 and 10
 abbrev pub tail30 : List ℕ → List Row

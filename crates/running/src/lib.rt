@@ -140,7 +140,7 @@ fn step49(st: State, r: &[u8]) -> Step
 {
     let a = st.assignment;
     let group = a.group;
-    let placed = details::check49(r, a);
+    let placed = messages::check49(r, a);
     let finding = placed.finding;
     pass_on(st, finding, Kind::R49, group, placed.places)
 }
@@ -152,7 +152,7 @@ fn step50(st: State, r: &[u8]) -> Step
     let a = st.assignment;
     let group = a.group;
     let places = a.places;
-    let specified = details::check50(r, a);
+    let specified = specifications::check50(r, a);
     let finding = specified.finding;
     match finding {
         Finding::Fault(number, field) => Step::Stop(number, field),

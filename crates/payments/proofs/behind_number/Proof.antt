@@ -13,9 +13,9 @@ use Rattle.payments.proofs.behind_number.Tie as tie
 use Rattle.payments.proofs.behind_number.Reads as reads
 use Rattle.payments.proofs.behind_number.Lts as lts
 use Rattle.common.proofs.code_for.Reads as code-for-reads
-use Rattle.payments.proofs.amount.Reads as amount-reads
-use Rattle.payments.proofs.date.Reads as date-reads
-use Rattle.payments.proofs.party.Reads as party-reads
+use Rattle.payment_values.proofs.amount.Reads as amount-reads
+use Rattle.payment_values.proofs.date.Reads as date-reads
+use Rattle.payment_fields.proofs.party.Reads as party-reads
 use Rattle.payments.proofs.tail.Reads as tail-reads
 use Rattle.payments.proofs.wrong.Reads as wrong-reads
 

@@ -21,7 +21,7 @@ use Rattle.payments.proofs.check30.Reads as reads
 use Rattle.payments.proofs.check30.Lts as lts
 use Rattle.payments.proofs.behind_number.Reads as behind-number-reads
 use Rattle.payments.proofs.head.Reads as head-reads
-use Rattle.payments.proofs.number.Reads as number-reads
+use Rattle.payment_values.proofs.number.Reads as number-reads
 use Rattle.payments.proofs.wrong.Reads as wrong-reads
 
 -- a record whose first fields are sound is of the assignment's service

@@ -24,7 +24,7 @@ use Rattle.fields.proofs.places.code_at.Reads as code-at-reads
 use Rattle.figures.proofs.groups.Group.gives.Reads as gives-reads
 use Rattle.layout.proofs.Finding.demand.Reads as demand-reads
 use Rattle.layout.proofs.Finding.or_else.Reads as or-else-reads
-use Rattle.payments.proofs.listed.Reads as listed-reads
+use Rattle.payment_fields.proofs.listed.Reads as listed-reads
 
 gives-requires : tie.Need-gives-requires
 gives-requires c κs = search needs

@@ -18,7 +18,7 @@ use Rattle.payments.proofs.tail.Reads as reads
 use Rattle.payments.proofs.tail.Lts as lts
 use Rattle.fields.proofs.places.all_at.Reads as all-at-reads
 use Rattle.layout.proofs.Finding.demand.Reads as demand-reads
-use Rattle.payments.proofs.kid_sound.Reads as kid-sound-reads
+use Rattle.payment_fields.proofs.kid_sound.Reads as kid-sound-reads
 
 -- both rows by what their tests answer
 abbrev both : Bool → Bool → Finding

@@ -8,7 +8,7 @@ use Rattle.running.proofs.step49.Statement.{statement}
 use Rattle.running.proofs.step49.Tie as tie
 use Rattle.running.proofs.step49.Reads as reads
 use Rattle.running.proofs.step49.Lts as lts
-use Rattle.details.proofs.check49.Reads as check49-reads
+use Rattle.messages.proofs.check49.Reads as check49-reads
 use Rattle.running.proofs.pass_on.Reads as pass-on-reads
 
 check49-requires : tie.Need-check49-requires

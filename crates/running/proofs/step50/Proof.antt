@@ -14,7 +14,7 @@ use Rattle.running.proofs.step50.Statement.{statement}
 use Rattle.running.proofs.step50.Tie as tie
 use Rattle.running.proofs.step50.Reads as reads
 use Rattle.running.proofs.step50.Lts as lts
-use Rattle.details.proofs.check50.Reads as check50-reads
+use Rattle.specifications.proofs.check50.Reads as check50-reads
 use Rattle.fields.proofs.places.code_at.Reads as code-at-reads
 use Rattle.growth.proofs.group_with.Reads as group-with-reads
 use Rattle.running.proofs.pass_on.Reads as pass-on-reads
