@@ -1,4 +1,3 @@
-pub mod Steps
 pub mod Keys
 pub mod Figures
 pub mod Bounds

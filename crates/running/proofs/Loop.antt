@@ -30,8 +30,8 @@ use Rattle.choice.specs.Choice.{if_then_else_}
 use Rattle.figures.specs.declared.totals.Totals.{Totals}
 use Rattle.running.specs.Figured.{slots, allSlots, blocks}
 use Rattle.running.specs.Kept.{Keyed, Kept, Noted, Roomy}
-use Rattle.running.proofs.Steps.{went-on, run-next, run-stop, table-holds, table-of, may-stand, never-other, Opens, opens}
-use Rattle.running.proofs.Bounds.{small-next}
+use Rattle.steps.proofs.Steps.{went-on, run-next, run-stop, table-holds, table-of, may-stand, never-other, Opens, opens}
+use Rattle.steps.proofs.Bounds.{small-next}
 use Rattle.running.proofs.Figures.{figures-next, figures-last}
 use Rattle.running.proofs.Records.{rest, rest-next, rest-end, rest-start, part-long}
 

@@ -6,25 +6,17 @@ use mathlib.Core.List.{List, [], _∷_, _++_}
 use mathlib.Core.Bool.{true}
 use lib.ListN.{length, take}
 use Rattle.fields.specs.Bytes.{every, isDigit, part}
-use Rattle.figures.specs.Totals.{_⊕_, oneRecord}
-use Rattle.figures.specs.declared.groups.Group.{Group}
 use Rattle.figures.specs.declared.totals.Totals.{Totals}
 use Rattle.figures.specs.declared.totals.AssignmentTotals.{AssignmentTotals}
 use Rattle.dates.specs.declared.Window.{Window}
 use Rattle.rules.specs.Codes.{kindOf}
-use Rattle.rules.specs.Growth.{passed, start, gain, keys, allKeys}
+use Rattle.rules.specs.Growth.{start, gain, keys, allKeys}
 use Rattle.rules.specs.Run.{run, recordsOf}
-use Rattle.rules.specs.declared.Kind.{Kind}
 use Rattle.rules.specs.declared.Kind.the-variants.{R20}
 use Rattle.rules.specs.declared.Mode.{Mode}
-use Rattle.rules.specs.declared.State.{State}
 use Rattle.rules.specs.declared.Verdict.{Verdict}
 use Rattle.rules.specs.declared.Verdict.the-variants.{Accepted}
 use Rattle.running.specs.Figured.{allSlots, done, blocks}
-
--- the state behind a record that brings no transaction
-abbrev pub passedOn : Kind → Group → ℕ → State → State
-passedOn k g ps st = record { file = st .file ⊕ oneRecord; assignment = passed k g ps (st .assignment) }
 
 -- a record 20 whose key can be kept: its two numbers are digits, and there is room
 pub record Keyed (r : List ℕ) (used : ℕ) : Type 0 where

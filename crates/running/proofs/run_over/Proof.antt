@@ -15,7 +15,7 @@ use Rattle.running.proofs.finish.Reads as finish-reads
 use Rattle.running.proofs.keep_figures.Reads as keep-figures-reads
 use Rattle.running.proofs.keep_key.Reads as keep-key-reads
 use Rattle.running.proofs.refusal.Reads as refusal-reads
-use Rattle.running.proofs.take_record.Reads as take-record-reads
+use Rattle.steps.proofs.take_record.Reads as take-record-reads
 use Rattle.running.proofs.keep_ended.Reads as keep-ended-reads
 
 abbrev Inv-loop : tie.InvT-loop

@@ -1,13 +1,13 @@
 use mathlib.Core.Path.{refl, _∙_}
 use Rattle.rules.specs.declared.Kind.the-variants.{R88}
-use Rattle.running.proofs.Steps.{behind}
+use Rattle.steps.proofs.Steps.{behind}
 use borrow.Author.Needs.{needs}
-use Rattle.running.proofs.step88.Statement.{statement}
-use Rattle.running.proofs.step88.Tie as tie
-use Rattle.running.proofs.step88.Reads as reads
-use Rattle.running.proofs.step88.Lts as lts
+use Rattle.steps.proofs.step88.Statement.{statement}
+use Rattle.steps.proofs.step88.Tie as tie
+use Rattle.steps.proofs.step88.Reads as reads
+use Rattle.steps.proofs.step88.Lts as lts
 use Rattle.ends.proofs.check88.Reads as check88-reads
-use Rattle.running.proofs.pass_on.Reads as pass-on-reads
+use Rattle.steps.proofs.pass_on.Reads as pass-on-reads
 
 check88-requires : tie.Need-check88-requires
 check88-requires c κs = search needs

@@ -1,17 +1,17 @@
 use borrow.Author.Needs.{needs}
-use Rattle.running.proofs.step_for.Statement.{statement}
-use Rattle.running.proofs.step_for.Tie as tie
-use Rattle.running.proofs.step_for.Reads as reads
-use Rattle.running.proofs.step_for.Lts as lts
-use Rattle.running.proofs.step10.Reads as step10-reads
-use Rattle.running.proofs.step20.Reads as step20-reads
-use Rattle.running.proofs.step30.Reads as step30-reads
-use Rattle.running.proofs.step31.Reads as step31-reads
-use Rattle.running.proofs.step40.Reads as step40-reads
-use Rattle.running.proofs.step49.Reads as step49-reads
-use Rattle.running.proofs.step50.Reads as step50-reads
-use Rattle.running.proofs.step88.Reads as step88-reads
-use Rattle.running.proofs.step89.Reads as step89-reads
+use Rattle.steps.proofs.step_for.Statement.{statement}
+use Rattle.steps.proofs.step_for.Tie as tie
+use Rattle.steps.proofs.step_for.Reads as reads
+use Rattle.steps.proofs.step_for.Lts as lts
+use Rattle.steps.proofs.step10.Reads as step10-reads
+use Rattle.steps.proofs.step20.Reads as step20-reads
+use Rattle.steps.proofs.step30.Reads as step30-reads
+use Rattle.steps.proofs.step31.Reads as step31-reads
+use Rattle.steps.proofs.step40.Reads as step40-reads
+use Rattle.steps.proofs.step49.Reads as step49-reads
+use Rattle.steps.proofs.step50.Reads as step50-reads
+use Rattle.steps.proofs.step88.Reads as step88-reads
+use Rattle.steps.proofs.step89.Reads as step89-reads
 
 enum-told : tie.Need-enum-told
 enum-told c = search needs

@@ -1,14 +1,14 @@
 use mathlib.Core.Path.{refl, _∙_}
 use Rattle.rules.specs.declared.Kind.the-variants.{R20}
-use Rattle.running.proofs.Steps.{stop-at, next-at}
+use Rattle.steps.proofs.Steps.{stop-at, next-at}
 use borrow.Author.Needs.{needs}
-use Rattle.running.proofs.step20.Statement.{statement}
-use Rattle.running.proofs.step20.Tie as tie
-use Rattle.running.proofs.step20.Reads as reads
-use Rattle.running.proofs.step20.Lts as lts
+use Rattle.steps.proofs.step20.Statement.{statement}
+use Rattle.steps.proofs.step20.Tie as tie
+use Rattle.steps.proofs.step20.Reads as reads
+use Rattle.steps.proofs.step20.Lts as lts
 use Rattle.figures.proofs.totals.Totals.with_assignment.Reads as with-assignment-reads
 use Rattle.growth.proofs.open_for.Reads as open-for-reads
-use Rattle.running.proofs.service_of.Reads as service-of-reads
+use Rattle.steps.proofs.service_of.Reads as service-of-reads
 use Rattle.starts.proofs.check20.Reads as check20-reads
 
 check20-requires : tie.Need-check20-requires

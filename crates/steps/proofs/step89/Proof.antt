@@ -1,13 +1,13 @@
 use mathlib.Core.Path.{refl, _∙_}
 use Rattle.rules.specs.declared.Kind.the-variants.{R89}
-use Rattle.running.proofs.Steps.{behind}
+use Rattle.steps.proofs.Steps.{behind}
 use borrow.Author.Needs.{needs}
-use Rattle.running.proofs.step89.Statement.{statement}
-use Rattle.running.proofs.step89.Tie as tie
-use Rattle.running.proofs.step89.Reads as reads
-use Rattle.running.proofs.step89.Lts as lts
+use Rattle.steps.proofs.step89.Statement.{statement}
+use Rattle.steps.proofs.step89.Tie as tie
+use Rattle.steps.proofs.step89.Reads as reads
+use Rattle.steps.proofs.step89.Lts as lts
 use Rattle.ends.proofs.check89.Reads as check89-reads
-use Rattle.running.proofs.pass_on.Reads as pass-on-reads
+use Rattle.steps.proofs.pass_on.Reads as pass-on-reads
 
 check89-requires : tie.Need-check89-requires
 check89-requires c κs = search needs

@@ -1,13 +1,13 @@
 use mathlib.Core.Path.{refl, _∙_}
 use Rattle.rules.specs.declared.Kind.the-variants.{R31}
-use Rattle.running.proofs.Steps.{behind}
+use Rattle.steps.proofs.Steps.{behind}
 use borrow.Author.Needs.{needs}
-use Rattle.running.proofs.step31.Statement.{statement}
-use Rattle.running.proofs.step31.Tie as tie
-use Rattle.running.proofs.step31.Reads as reads
-use Rattle.running.proofs.step31.Lts as lts
+use Rattle.steps.proofs.step31.Statement.{statement}
+use Rattle.steps.proofs.step31.Tie as tie
+use Rattle.steps.proofs.step31.Reads as reads
+use Rattle.steps.proofs.step31.Lts as lts
 use Rattle.details.proofs.check31.Reads as check31-reads
-use Rattle.running.proofs.pass_on.Reads as pass-on-reads
+use Rattle.steps.proofs.pass_on.Reads as pass-on-reads
 
 check31-requires : tie.Need-check31-requires
 check31-requires c κs = search needs

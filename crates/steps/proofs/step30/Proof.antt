@@ -9,13 +9,13 @@ use Rattle.figures.specs.declared.counts.TransactionNumber.{TransactionNumber}
 use Rattle.rules.specs.Growth.{paidAs}
 use Rattle.rules.specs.Payments.{amountIn}
 use Rattle.rules.specs.declared.Kind.the-variants.{R30}
-use Rattle.running.proofs.Steps.{stop-at, next-at, holds-at}
-use Rattle.running.proofs.Bounds.{Paying, pays, room-for, within-by}
+use Rattle.steps.proofs.Steps.{stop-at, next-at, holds-at}
+use Rattle.steps.proofs.Bounds.{Paying, pays, room-for, within-by}
 use borrow.Author.Needs.{needs}
-use Rattle.running.proofs.step30.Statement.{statement}
-use Rattle.running.proofs.step30.Tie as tie
-use Rattle.running.proofs.step30.Reads as reads
-use Rattle.running.proofs.step30.Lts as lts
+use Rattle.steps.proofs.step30.Statement.{statement}
+use Rattle.steps.proofs.step30.Tie as tie
+use Rattle.steps.proofs.step30.Reads as reads
+use Rattle.steps.proofs.step30.Lts as lts
 use Rattle.fields.proofs.places.code_at.Reads as code-at-reads
 use Rattle.figures.proofs.totals.Totals.with_transaction.Reads as with-transaction-reads
 use Rattle.growth.proofs.pay.Reads as pay-reads

@@ -6,18 +6,18 @@ use Rattle.figures.specs.declared.amounts.Amount.{Amount}
 use Rattle.figures.specs.declared.groups.Group.{Group}
 use Rattle.rules.specs.Growth.{groupedAs}
 use Rattle.rules.specs.declared.Kind.the-variants.{R50}
-use Rattle.running.specs.Kept.{passedOn}
-use Rattle.running.proofs.Steps.{stop-at, behind, holds-at}
-use Rattle.running.proofs.Bounds.{specifies, within-by}
+use Rattle.steps.specs.Passed.{passedOn}
+use Rattle.steps.proofs.Steps.{stop-at, behind, holds-at}
+use Rattle.steps.proofs.Bounds.{specifies, within-by}
 use borrow.Author.Needs.{needs}
-use Rattle.running.proofs.step50.Statement.{statement}
-use Rattle.running.proofs.step50.Tie as tie
-use Rattle.running.proofs.step50.Reads as reads
-use Rattle.running.proofs.step50.Lts as lts
+use Rattle.steps.proofs.step50.Statement.{statement}
+use Rattle.steps.proofs.step50.Tie as tie
+use Rattle.steps.proofs.step50.Reads as reads
+use Rattle.steps.proofs.step50.Lts as lts
 use Rattle.specifications.proofs.check50.Reads as check50-reads
 use Rattle.fields.proofs.places.code_at.Reads as code-at-reads
 use Rattle.growth.proofs.group_with.Reads as group-with-reads
-use Rattle.running.proofs.pass_on.Reads as pass-on-reads
+use Rattle.steps.proofs.pass_on.Reads as pass-on-reads
 
 check50-requires : tie.Need-check50-requires
 check50-requires c κs = search needs

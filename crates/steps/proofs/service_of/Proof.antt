@@ -1,10 +1,10 @@
 use mathlib.Core.Path.{sym, _∙_}
 use borrow.Author.Tests.{eq-eqb, ne-eqb}
 use borrow.Author.Needs.{needs}
-use Rattle.running.proofs.service_of.Statement.{statement}
-use Rattle.running.proofs.service_of.Tie as tie
-use Rattle.running.proofs.service_of.Reads as reads
-use Rattle.running.proofs.service_of.Lts as lts
+use Rattle.steps.proofs.service_of.Statement.{statement}
+use Rattle.steps.proofs.service_of.Tie as tie
+use Rattle.steps.proofs.service_of.Reads as reads
+use Rattle.steps.proofs.service_of.Lts as lts
 use Rattle.fields.proofs.places.code_at.Reads as code-at-reads
 
 code-at-requires : tie.Need-code-at-requires

@@ -6,15 +6,15 @@ use Rattle.rules.specs.Order.{mayFollow}
 use Rattle.rules.specs.Run.{kindStep}
 use Rattle.rules.specs.declared.Kind.{Kind}
 use Rattle.rules.specs.declared.Kind.the-variants.{Other}
-use Rattle.running.proofs.Steps.{by-kind, no-line-feed, not-here, feed-yes, feed-no, never-other}
+use Rattle.steps.proofs.Steps.{by-kind, no-line-feed, not-here, feed-yes, feed-no, never-other}
 use borrow.Author.Needs.{needs}
-use Rattle.running.proofs.take_record.Statement.{statement}
-use Rattle.running.proofs.take_record.Tie as tie
-use Rattle.running.proofs.take_record.Reads as reads
-use Rattle.running.proofs.take_record.Lts as lts
+use Rattle.steps.proofs.take_record.Statement.{statement}
+use Rattle.steps.proofs.take_record.Tie as tie
+use Rattle.steps.proofs.take_record.Reads as reads
+use Rattle.steps.proofs.take_record.Lts as lts
 use Rattle.order.proofs.kind_of.Reads as kind-of-reads
 use Rattle.order.proofs.may_follow.Reads as may-follow-reads
-use Rattle.running.proofs.step_for.Reads as step-for-reads
+use Rattle.steps.proofs.step_for.Reads as step-for-reads
 
 shared-slice-read-if1 : tie.Need-shared-slice-read-if1
 shared-slice-read-if1 c = search needs

@@ -1,11 +1,11 @@
 use mathlib.Core.Path.{refl, _∙_}
 use Rattle.rules.specs.declared.Kind.the-variants.{R10}
-use Rattle.running.proofs.Steps.{stop-at, next-at}
+use Rattle.steps.proofs.Steps.{stop-at, next-at}
 use borrow.Author.Needs.{needs}
-use Rattle.running.proofs.step10.Statement.{statement}
-use Rattle.running.proofs.step10.Tie as tie
-use Rattle.running.proofs.step10.Reads as reads
-use Rattle.running.proofs.step10.Lts as lts
+use Rattle.steps.proofs.step10.Statement.{statement}
+use Rattle.steps.proofs.step10.Tie as tie
+use Rattle.steps.proofs.step10.Reads as reads
+use Rattle.steps.proofs.step10.Lts as lts
 use Rattle.figures.proofs.totals.Totals.with_record.Reads as with-record-reads
 use Rattle.growth.proofs.before_assignments.Reads as before-assignments-reads
 use Rattle.starts.proofs.check10.Reads as check10-reads

@@ -1,10 +1,10 @@
 use mathlib.Core.Path.{sym}
-use Rattle.running.proofs.Steps.{stepped-stop}
+use Rattle.steps.proofs.Steps.{stepped-stop}
 use borrow.Author.Needs.{needs}
-use Rattle.running.proofs.pass_on.Statement.{statement}
-use Rattle.running.proofs.pass_on.Tie as tie
-use Rattle.running.proofs.pass_on.Reads as reads
-use Rattle.running.proofs.pass_on.Lts as lts
+use Rattle.steps.proofs.pass_on.Statement.{statement}
+use Rattle.steps.proofs.pass_on.Tie as tie
+use Rattle.steps.proofs.pass_on.Reads as reads
+use Rattle.steps.proofs.pass_on.Lts as lts
 use Rattle.figures.proofs.totals.Totals.with_record.Reads as with-record-reads
 use Rattle.growth.proofs.pass.Reads as pass-reads
 

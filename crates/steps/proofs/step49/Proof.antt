@@ -1,15 +1,15 @@
 use Prim.Native.Nat.{ℕ}
 use mathlib.Core.Path.{refl, ap, _∙_}
 use Rattle.rules.specs.declared.Kind.the-variants.{R49}
-use Rattle.running.specs.Kept.{passedOn}
-use Rattle.running.proofs.Steps.{behind}
+use Rattle.steps.specs.Passed.{passedOn}
+use Rattle.steps.proofs.Steps.{behind}
 use borrow.Author.Needs.{needs}
-use Rattle.running.proofs.step49.Statement.{statement}
-use Rattle.running.proofs.step49.Tie as tie
-use Rattle.running.proofs.step49.Reads as reads
-use Rattle.running.proofs.step49.Lts as lts
+use Rattle.steps.proofs.step49.Statement.{statement}
+use Rattle.steps.proofs.step49.Tie as tie
+use Rattle.steps.proofs.step49.Reads as reads
+use Rattle.steps.proofs.step49.Lts as lts
 use Rattle.messages.proofs.check49.Reads as check49-reads
-use Rattle.running.proofs.pass_on.Reads as pass-on-reads
+use Rattle.steps.proofs.pass_on.Reads as pass-on-reads
 
 check49-requires : tie.Need-check49-requires
 check49-requires c κs = search needs

@@ -1,13 +1,13 @@
 use mathlib.Core.Path.{refl, _∙_}
 use Rattle.rules.specs.declared.Kind.the-variants.{R40}
-use Rattle.running.proofs.Steps.{behind}
+use Rattle.steps.proofs.Steps.{behind}
 use borrow.Author.Needs.{needs}
-use Rattle.running.proofs.step40.Statement.{statement}
-use Rattle.running.proofs.step40.Tie as tie
-use Rattle.running.proofs.step40.Reads as reads
-use Rattle.running.proofs.step40.Lts as lts
+use Rattle.steps.proofs.step40.Statement.{statement}
+use Rattle.steps.proofs.step40.Tie as tie
+use Rattle.steps.proofs.step40.Reads as reads
+use Rattle.steps.proofs.step40.Lts as lts
 use Rattle.details.proofs.check40.Reads as check40-reads
-use Rattle.running.proofs.pass_on.Reads as pass-on-reads
+use Rattle.steps.proofs.pass_on.Reads as pass-on-reads
 
 check40-requires : tie.Need-check40-requires
 check40-requires c κs = search needs
