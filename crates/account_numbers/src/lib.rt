@@ -52,14 +52,14 @@ fn right_digit(rest: u8) -> u8
     11 - rest
 }
 
-fn wide(b: u8) -> u16
+fn wide(b: u8) -> u32
     ensures { λ r. ⌜ (r ≡ b) × (r < 256) ⌝ }
 {
-    b as u16
+    b as u32
 }
 
 // The first ten bytes by their weights.
-fn weigh(s: &[u8]) -> u16
+fn weigh(s: &[u8]) -> u32
     requires { ⌜ length (now s) ≡ 11 ⌝ }
     ensures { λ r. ⌜ r ≡ weighed weights (now (s .entry)) ⌝ }
 {

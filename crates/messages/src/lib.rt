@@ -72,11 +72,17 @@ pub fn check49(r: &[u8], a: Assignment) -> Placed
 {
     let service = a.service;
     let number = a.number;
+    let head = common::repeating(r, service, a.code, number);
+    let Finding::Sound = head else {
+        return Placed {
+            finding: head,
+            places: 0,
+        };
+    };
     let placed = placing(r, a);
     let found = placed.finding;
     Placed {
-        finding: common::repeating(r, service, a.code, number)
-            .demand(fields::places::same_at(r, 16, 16, b"3"), 7, 6)
+        finding: head.demand(fields::places::same_at(r, 16, 16, b"3"), 7, 6)
             .or_else(found)
             .demand(fields::places::all_at(Class::Text, r, 21, 60), 8, 9)
             .demand(fields::places::zeros_from(r, 61), 7, 10),
