@@ -146,7 +146,8 @@ fn write(draft: &[u8], figures: Totals, kept: &[u64], out: &mut [u8])
         let totals = own.totals;
         let records = totals.records;
         let next = k + records.0 as usize;
-        at += put_assignment(&mut out[at..], draft, k, next, own.with_record());
+        let ended = own.with_record();
+        at += put_assignment(&mut out[at..], draft, k, next, ended);
         k = next;
         j += 1;
     }

@@ -50,27 +50,27 @@ add-next c =
     let b = block-is _ _ _ _ (c .before .before .before .before .before .loop .inv .1) (at-hand _ _ _ _ _ (c .before .before .before .before .before .loop .inv .0) (omega arith)) _ (c .before .before .before .figures-at .ensures) _ refl in
     omega (arith, b .most)
 
+with-record-requires : tie.Need-with-record-requires Inv-loop μ-loop
+with-record-requires c κs = takes-end _ _ _ _ (c .before .before .before .before .before .loop .inv .1) (at-hand _ _ _ _ _ (c .before .before .before .before .before .loop .inv .0) (omega arith)) _ (c .before .before .before .figures-at .ensures)
+
 sub-put-assignment : tie.Need-sub-put-assignment Inv-loop μ-loop
-sub-put-assignment c = at-within _ _ _ _ _ (c .before .before .before .before .before .loop .inv .0)
+sub-put-assignment c = at-within _ _ _ _ _ (c .before .before .before .before .before .before .loop .inv .0)
 
 part-put-assignment-start : tie.Need-part-put-assignment-start Inv-loop μ-loop
-part-put-assignment-start c = at-within _ _ _ _ _ (c .before .before .before .before .before .loop .inv .0)
+part-put-assignment-start c = at-within _ _ _ _ _ (c .before .before .before .before .before .before .loop .inv .0)
 
 part-put-assignment-end : tie.Need-part-put-assignment-end Inv-loop μ-loop
 part-put-assignment-end c = search needs
 
-with-record-requires : tie.Need-with-record-requires Inv-loop μ-loop
-with-record-requires c κs = takes-end _ _ _ _ (c .before .before .before .before .before .before .loop .inv .1) (at-hand _ _ _ _ _ (c .before .before .before .before .before .before .loop .inv .0) (omega arith)) _ (c .before .before .before .before .figures-at .ensures)
-
 put-assignment-requires : tie.Need-put-assignment-requires Inv-loop μ-loop
 put-assignment-requires c κs =
-    let b = block-is _ _ _ _ (c .before .before .before .before .before .before .before .loop .inv .1) (at-hand _ _ _ _ _ (c .before .before .before .before .before .before .before .loop .inv .0) (omega arith)) _ (c .before .before .before .before .before .figures-at .ensures) _ (c .with-record .ensures) in
+    let b = block-is _ _ _ _ (c .before .before .before .before .before .before .before .loop .inv .1) (at-hand _ _ _ _ _ (c .before .before .before .before .before .before .before .loop .inv .0) (omega arith)) _ (c .before .before .before .before .before .figures-at .ensures) _ (c .before .with-record .ensures) in
     (record { more = b .more; most = b .most }, has-room _ _ _ _ _ (c .before .before .before .before .before .before .before .loop .inv .0) (omega arith) _ _ b)
 
 add-at : tie.Need-add-at Inv-loop μ-loop
 add-at c =
     let l = c .before .before .before .before .before .before .before .before .before .before .loop in
-    let b = block-is _ _ _ _ (l .inv .1) (at-hand _ _ _ _ _ (l .inv .0) (omega arith)) _ (c .before .before .before .before .before .before .before .before .figures-at .ensures) _ (c .before .before .before .with-record .ensures) in
+    let b = block-is _ _ _ _ (l .inv .1) (at-hand _ _ _ _ _ (l .inv .0) (omega arith)) _ (c .before .before .before .before .before .before .before .before .figures-at .ensures) _ (c .before .before .before .before .with-record .ensures) in
     let e : length (l .out) ≡ length (c .before .before .before .before .before .before .before .before .before .before .before .before .before .before .before .before .before .before .before .args .out .now) = out-long _ _ _ _ _ (l .inv .0) ∙ c .before .before .before .before .before .before .before .before .before .before .before .before .before .copy-to .kept .0 in
     let h : l .at + c .before .before .put-assignment .result ≤ length (c .before .before .before .before .before .before .before .before .before .before .before .before .before .before .before .before .before .before .before .args .out .now) = omega (arith, ends-within _ _ _ _ _ (l .inv .0) (omega arith) _ _ b, c .before .before .put-assignment .ensures .0, e) in
     omega (arith, h, c .before .before .before .before .before .before .before .before .before .before .before .before .before .before .before .before .before .before .before .good .1 .1 .1 .0 .0)
@@ -87,7 +87,7 @@ loop-again : tie.Need-loop-again Inv-loop μ-loop
 loop-again c =
     let l = c .before .before .before .before .before .before .before .before .before .before .loop in
     let e = at-hand _ _ _ _ _ (l .inv .0) (omega arith) in
-    let b = block-is _ _ _ _ (l .inv .1) e _ (c .before .before .before .before .before .before .before .before .figures-at .ensures) _ (c .before .before .before .with-record .ensures) in
+    let b = block-is _ _ _ _ (l .inv .1) e _ (c .before .before .before .before .before .before .before .before .figures-at .ensures) _ (c .before .before .before .before .with-record .ensures) in
     (going-next _ _ _ _ _ (l .inv .0) (omega arith) _ _ b _ _ (c .before .before .put-assignment .ensures .0) (c .before .before .put-assignment .ensures .1), reading-next _ _ _ _ (l .inv .1) e _ (c .before .before .before .before .before .before .before .before .figures-at .ensures), l .inv .2, refl)
 
 sub-put-end : tie.Need-sub-put-end Inv-loop μ-loop
@@ -122,10 +122,10 @@ write-spec =
     figures-at-requires
     cast-next
     add-next
+    with-record-requires
     sub-put-assignment
     part-put-assignment-start
     part-put-assignment-end
-    with-record-requires
     put-assignment-requires
     add-at
     add-j
