@@ -122,8 +122,13 @@ fn row(name: &str, who: &str, times: Times, records: usize) -> String {
 /// The processor's name, where the system tells it.
 fn processor() -> String {
     let text = std::fs::read_to_string("/proc/cpuinfo").unwrap_or_default();
-    let name = text.lines().find_map(|line| line.strip_prefix("model name")?.split_once(": "));
-    name.map_or("unknown".into(), |(_, name)| name.to_string())
+    let value = |key: &str| {
+        text.lines().find_map(|line| Some(line.strip_prefix(key)?.split_once(": ")?.1.to_string()))
+    };
+    let part =
+        || Some(format!("implementer {}, part {}", value("CPU implementer")?, value("CPU part")?));
+    let name = value("model name").or_else(part).unwrap_or("unknown".into());
+    format!("{name} ({})", std::env::consts::ARCH)
 }
 
 fn season() {
