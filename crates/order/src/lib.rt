@@ -73,9 +73,11 @@ fn is_draft(mode: Mode) -> bool
 }
 
 // A whole transaction lies behind: the next one, or the end of the assignment, may come.
-fn whole_behind(last: u8, remittance: bool, code: u8) -> bool
-    ensures { λ x. ⌜ x ≡ wholeBehind last remittance (eqb code 4) (eqb code 16) ⌝ }
+fn whole_behind(before: Kind, service: Service, code: u8) -> bool
+    ensures { λ x. ⌜ x ≡ wholeBehind (numberOfKind before) (isRemittance service) (eqb code 4) (eqb code 16) ⌝ }
 {
+    let last = number_of(before);
+    let remittance = is_remittance(service);
     (last == 40)
         | (last == 49)
         | (last == 50)
@@ -89,19 +91,23 @@ pub fn may_follow(mode: Mode, a: Assignment, kind: Kind) -> bool
     let before = a.last;
     let service = a.service;
     let code = a.code;
-    let last = number_of(before);
-    let remittance = is_remittance(service);
-    let draft = is_draft(mode);
+    // Nothing is computed before this match, so that it can be one jump with the match in `kind_for`.
     match kind {
-        Kind::R30 => (last == 20) | whole_behind(last, remittance, code),
-        Kind::R31 => last == 30,
-        Kind::R40 => (last == 31) & remittance & ((code == 3) | (code == 4)),
-        Kind::R49 => (last == 49) | ((last == 31) & !remittance & (code == 3)),
-        Kind::R50 => (last == 50) | ((last == 31) & remittance & (code == 16)),
-        Kind::R88 => !draft & whole_behind(last, remittance, code),
-        Kind::R20 => (last == 10) | (last == 88) | (draft & whole_behind(last, remittance, code)),
-        Kind::R89 => last == 88,
-        Kind::R10 => last == 0,
+        Kind::R30 => (number_of(before) == 20) | whole_behind(before, service, code),
+        Kind::R31 => number_of(before) == 30,
+        Kind::R40 => (number_of(before) == 31)
+            & is_remittance(service)
+            & ((code == 3) | (code == 4)),
+        Kind::R49 => (number_of(before) == 49)
+            | ((number_of(before) == 31) & !is_remittance(service) & (code == 3)),
+        Kind::R50 => (number_of(before) == 50)
+            | ((number_of(before) == 31) & is_remittance(service) & (code == 16)),
+        Kind::R88 => !is_draft(mode) & whole_behind(before, service, code),
+        Kind::R20 => (number_of(before) == 10)
+            | (number_of(before) == 88)
+            | (is_draft(mode) & whole_behind(before, service, code)),
+        Kind::R89 => number_of(before) == 88,
+        Kind::R10 => number_of(before) == 0,
         Kind::Other => false,
     }
 }
@@ -118,7 +124,7 @@ pub fn may_end(mode: Mode, a: Assignment) -> bool
         Mode::Draft => {
             let before = a.last;
             let service = a.service;
-            whole_behind(number_of(before), is_remittance(service), a.code)
+            whole_behind(before, service, a.code)
         }
     }
 }

@@ -10,7 +10,6 @@ use Rattle.order.proofs.may_end.Statement.{statement}
 use Rattle.order.proofs.may_end.Tie as tie
 use Rattle.order.proofs.may_end.Reads as reads
 use Rattle.order.proofs.may_end.Lts as lts
-use Rattle.order.proofs.is_remittance.Reads as is-remittance-reads
 use Rattle.order.proofs.number_of.Reads as number-of-reads
 use Rattle.order.proofs.whole_behind.Reads as whole-behind-reads
 
@@ -23,12 +22,6 @@ number-of-requires c κs = search needs
 enum-told-2 : tie.Need-enum-told-2
 enum-told-2 c = search needs
 
-number-of-requires-2 : tie.Need-number-of-requires-2
-number-of-requires-2 c κs = search needs
-
-is-remittance-requires : tie.Need-is-remittance-requires
-is-remittance-requires c κs = search needs
-
 whole-behind-requires : tie.Need-whole-behind-requires
 whole-behind-requires c κs = search needs
 
@@ -38,19 +31,9 @@ returns c = rw (c .before .enum-told .given .1) (ap (λ (n : ℕ). eqb n 89) (c 
 
 returns-2 : tie.Need-returns-2
 unfolding mayEnd
-returns-2 c =
-    let p = c .before .before in
-    simp (c .whole-behind .ensures, c .before .is-remittance .ensures, p .number-of2 .ensures, p .before .enum-told2 .given .1) (choice-is File (p .before .before .before .args .a) R88)
+returns-2 c = simp (c .whole-behind .ensures, c .before .enum-told2 .given .1) (choice-is File (c .before .before .before .args .a) R88)
 
 pub may-end-spec : {M : Type 1} → statement M
 may-end-spec =
     tie.close
-    (tie.spec
-    enum-told
-    number-of-requires
-    enum-told-2
-    number-of-requires-2
-    is-remittance-requires
-    whole-behind-requires
-    returns
-    returns-2)
+    (tie.spec enum-told number-of-requires enum-told-2 whole-behind-requires returns returns-2)
