@@ -7,5 +7,5 @@ use Rattle.layout.specs.declared.Finding.the-variants.{Sound, Fault}
 use Rattle.layout.proofs.Laws.{fault-not-sound}
 
 -- a record that ends at a fault is not sound, and brings nothing
-pub no-value : {x y : Finding} {n k : ℕ} → x ≡ y → y ≡ Fault n k → x ≡ Sound → ⊥
-no-value {n = n} {k = k} e h s = fault-not-sound n k (sym h ∙ sym e ∙ s)
+pub no-value : {x : Finding} {n k : ℕ} → x ≡ Fault n k → x ≡ Sound → ⊥
+no-value {n = n} {k = k} e s = fault-not-sound n k (sym e ∙ s)

@@ -64,12 +64,12 @@ fn tail(r: &[u8], service: u8) -> Finding
     Finding::Sound.demand(kid, 8, 9).demand(zero, 7, 10)
 }
 
-// A record 30 with a fault brings nothing.
-fn wrong(finding: Finding) -> Paid
-    ensures { λ x. ⌜ x .finding ≡ finding ⌝ }
+// A record 30 with a fault brings nothing. The fault is handed on as its two numbers: a copied finding would go through memory for every record.
+fn wrong(number: u8, field: u8) -> Paid
+    ensures { λ x. ⌜ x .finding ≡ Finding.Fault number field ⌝ }
 {
     Paid {
-        finding,
+        finding: Finding::Fault(number, field),
         number: TransactionNumber(0),
         date: Date(0),
         amount: Amount(0),
@@ -87,22 +87,23 @@ fn behind_number(
     requires { ⌜ (length (now r) ≡ 81) × (serviceCode (now r) ≡ codeFor (a .service)) ⌝ }
     ensures { λ x. ⌜ ((ks : List ℕ) → RestBy w a file ks (now (r .entry)) number x) ⌝ }
 {
+    // Read first and looked at third: reading the amount takes longest, and can go on while the other fields are looked at.
+    let priced = payment_values::amount(r, a, file);
     let dated = payment_values::date(r, w, a);
     let date_found = dated.finding;
-    let Finding::Sound = date_found else {
-        return wrong(date_found);
-    };
+    if let Finding::Fault(fault, field) = date_found {
+        return wrong(fault, field);
+    }
     let assigned = a.service;
     let service = common::code_for(assigned);
     let party_found = payment_fields::party(r, service);
-    let Finding::Sound = party_found else {
-        return wrong(party_found);
-    };
-    let priced = payment_values::amount(r, a, file);
+    if let Finding::Fault(fault, field) = party_found {
+        return wrong(fault, field);
+    }
     let amount_found = priced.finding;
-    let Finding::Sound = amount_found else {
-        return wrong(amount_found);
-    };
+    if let Finding::Fault(fault, field) = amount_found {
+        return wrong(fault, field);
+    }
     let date = dated.date;
     let amount = priced.amount;
     Paid {
@@ -119,13 +120,13 @@ pub fn check30(r: &[u8], w: Window, a: Assignment, file: Totals) -> Paid
     ensures { λ x. ⌜ ((ks : List ℕ) → PaidBy w a file ks (now (r .entry)) x) ⌝ }
 {
     let head_found = head(r, a);
-    let Finding::Sound = head_found else {
-        return wrong(head_found);
-    };
+    if let Finding::Fault(fault, field) = head_found {
+        return wrong(fault, field);
+    }
     let numbered = payment_values::number(r, a);
     let number_found = numbered.finding;
-    let Finding::Sound = number_found else {
-        return wrong(number_found);
-    };
+    if let Finding::Fault(fault, field) = number_found {
+        return wrong(fault, field);
+    }
     behind_number(r, w, a, file, numbered.number)
 }

@@ -33,63 +33,64 @@ own-service f ks r a e = eqb-true (serviceCode r) (codeFor (a .service)) (all-of
 head-requires : tie.Need-head-requires
 head-requires c κs = search needs
 
-enum-told : tie.Need-enum-told
-enum-told c = search needs
-
-enum-told-2 : tie.Need-enum-told-2
-enum-told-2 c = search needs
+enum-known-head-found : tie.Need-enum-known-head-found
+enum-known-head-found c = search needs
 
 wrong-requires : tie.Need-wrong-requires
 wrong-requires c κs = search needs
 
 returns : tie.Need-returns
 returns c = λ ks.
-    let a = c .before .before .before .before .before .args in
+    let a = c .before .before .before .before .before .before .args in
     let r = a .r .now in
     let f = a .file in
     let heads : List Row = (groupGives (a .a) ∷ belongs (a .a) r) ++ (at 3 5 6 (typeListed (serviceCode r)) ∷ []) in
     let rest = rest30 (a .w) (a .a) r in
     let numbers : List Row = number30 (a .a) r ++ rest in
     let e = c .wrong .ensures in
-    let fault = c .before .enum-told2 .given .1 in
+    let fault = c .before .before .head-found .given .1 in
     record {
-      finding = e ∙ ends-here f ks r heads numbers (c .before .before .before .head .ensures f ks) fault;
-      number = λ s. absurd (no-value e fault s);
-      date = λ s. absurd (no-value e fault s);
-      amount = λ s. absurd (no-value e fault s);
+      finding = e ∙ sym fault ∙ ends-here f ks r heads numbers (c .before .before .before .before .head .ensures f ks) fault;
+      number = λ s. absurd (no-value e s);
+      date = λ s. absurd (no-value e s);
+      amount = λ s. absurd (no-value e s);
     }
+
+enum-told : tie.Need-enum-told
+enum-told c = search needs
 
 number-requires : tie.Need-number-requires
 number-requires c κs = search needs
 
-enum-told-3 : tie.Need-enum-told-3
-enum-told-3 c = search needs
-
-enum-told-4 : tie.Need-enum-told-4
-enum-told-4 c = search needs
+enum-known-number-found : tie.Need-enum-known-number-found
+enum-known-number-found c = search needs
 
 wrong-requires-2 : tie.Need-wrong-requires-2
 wrong-requires-2 c κs = search needs
 
 returns-2 : tie.Need-returns-2
 returns-2 c = λ ks.
-    let a = c .before .before .before .before .before .before .before .before .args in
+    let a = c .before .before .before .before .before .before .before .before .before .args in
     let r = a .r .now in
     let f = a .file in
     let heads : List Row = (groupGives (a .a) ∷ belongs (a .a) r) ++ (at 3 5 6 (typeListed (serviceCode r)) ∷ []) in
     let rest = rest30 (a .w) (a .a) r in
     let numbers : List Row = number30 (a .a) r ++ rest in
-    let h = c .before .before .before .before .before .before in
+    let n = c .before .before .before .before in
+    let h = n .before .before .before in
     let e = c .wrong2 .ensures in
-    let fault = c .before .enum-told4 .given .1 in
+    let fault = c .before .before .number-found .given .1 in
     record {
       finding =
-          goes-on f ks r heads numbers (h .head .ensures f ks) (c .before .before .before .before .enum-told .given .1)
-          (e ∙ ends-here f ks r (number30 (a .a) r) rest (c .before .before .before .number .ensures .finding f ks) fault);
-      number = λ s. absurd (no-value e fault s);
-      date = λ s. absurd (no-value e fault s);
-      amount = λ s. absurd (no-value e fault s);
+          goes-on f ks r heads numbers (h .head .ensures f ks) (n .before .enum-told .given .1)
+          (e ∙ sym fault ∙ ends-here f ks r (number30 (a .a) r) rest (n .number .ensures .finding f ks) fault);
+      number = λ s. absurd (no-value e s);
+      date = λ s. absurd (no-value e s);
+      amount = λ s. absurd (no-value e s);
     }
+
+enum-told-2 : tie.Need-enum-told-2
+enum-told-2 c = search needs
 
 behind-number-requires : tie.Need-behind-number-requires
 behind-number-requires c κs =
@@ -110,7 +111,7 @@ returns-3 c = λ ks.
     let numbers : List Row = number30 (a .a) r ++ rest in
     let n = c .before .before .before in
     let h = n .before .before .before in
-    let number-sound = c .before .enum-told3 .given .1 in
+    let number-sound = c .before .enum-told2 .given .1 in
     let behind = c .behind-number .ensures ks in
     record {
       finding =
@@ -126,14 +127,14 @@ check30-spec =
     tie.close
     (tie.spec
     head-requires
-    enum-told
-    enum-told-2
+    enum-known-head-found
     wrong-requires
     returns
+    enum-told
     number-requires
-    enum-told-3
-    enum-told-4
+    enum-known-number-found
     wrong-requires-2
     returns-2
+    enum-told-2
     behind-number-requires
     returns-3)
