@@ -11,11 +11,17 @@ use rules::Assignment;
 use rules::Kind;
 use rules::Mode;
 
-// The record type in field 4.
+// The record type in field 4. Nine records of ten are a 31 or a 30, and are told by their two bytes.
 pub fn kind_of(r: &[u8]) -> Kind
     requires { ⌜ length (now r) ≡ 81 ⌝ }
     ensures { λ x. ⌜ x ≡ kindOf (now (r .entry)) ⌝ }
 {
+    if fields::places::same_at(r, 7, 8, b"31") {
+        return Kind::R31;
+    }
+    if fields::places::same_at(r, 7, 8, b"30") {
+        return Kind::R30;
+    }
     kind_for(fields::places::code_at(r, 7))
 }
 
