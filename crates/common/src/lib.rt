@@ -108,14 +108,3 @@ pub fn repeating(r: &[u8], service: Service, code: u8, number: TransactionNumber
         Finding::Sound => same_number(r, number),
     }
 }
-
-// The same for a record that is mostly sound: no fault is looked for where the fields do repeat it.
-pub fn repeated(r: &[u8], service: Service, code: u8, number: TransactionNumber) -> Finding
-    requires { ⌜ length (now r) ≡ 81 ⌝ }
-    ensures { λ x. ⌜ ((a : Assignment) → a .service ≡ service → a .code ≡ code → a .number ≡ number → (f : Totals) (ks : List ℕ) → x ≡ firstFault f ks (now (r .entry)) (repeats a (now (r .entry)))) ⌝ }
-{
-    if repeats(r, service, code, number) {
-        return Finding::Sound;
-    }
-    repeating(r, service, code, number)
-}
