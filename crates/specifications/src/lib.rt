@@ -1,12 +1,13 @@
 // Record 50: a sub-specification of the payment, which its sum has room for.
 
 ghost use mathlib.Core.Path.{_≡_};
+ghost use mathlib.Core.Bool.{true};
 ghost use mathlib.Core.List.{List};
 ghost use Prim.Native.Nat.{ℕ};
 ghost use lib.Dec.{eqb};
 ghost use lib.ListN.{length};
 ghost use Rattle.choice.specs.Choice.{if_then_else_};
-ghost use Rattle.layout.specs.Rows.{firstFault};
+ghost use Rattle.layout.specs.Rows.{firstFault, AllHold};
 ghost use Rattle.specifications.specs.Pieces.{head50};
 ghost use Rattle.specifications.specs.Found.{AmountBy, SpecifiedBy};
 use fields::digits::Digits;
@@ -36,6 +37,22 @@ fn heading(r: &[u8], a: Assignment) -> Finding
             3,
         )
         .or_else(common::same_number(r, number))
+}
+
+// Fields 1 to 5 of a record 50 are those of its transaction: told at once.
+fn headed(r: &[u8], a: Assignment) -> bool
+    requires { ⌜ length (now r) ≡ 81 ⌝ }
+    ensures { λ x. ⌜ (x ≡ true → (f : Totals) (ks : List ℕ) → AllHold f ks (now (r .entry)) (head50 a (now (r .entry)))) ⌝ }
+{
+    let service = a.service;
+    let number = a.number;
+    let code = fields::places::code_at(r, 5);
+    let Digits::Number(n) = fields::places::number_at(r, 9, 15) else {
+        return false;
+    };
+    common::belongs_to(r, service)
+        & ((code == 16) | (code == 17))
+        & common::numbered(n).equals(number)
 }
 
 // The sum that a record 50 of this type adds to.
@@ -68,11 +85,15 @@ fn specifying(r: &[u8], a: Assignment) -> Specified
     }
 }
 
+// Where all but the amount holds, the record is what its amount is found to be: no other fault is looked for.
 pub fn check50(r: &[u8], a: Assignment) -> Specified
     requires { ⌜ length (now r) ≡ 81 ⌝ }
     ensures { λ x. ⌜ SpecifiedBy a (now (r .entry)) x ⌝ }
 {
     let specified = specifying(r, a);
+    if headed(r, a) & fields::places::kid_at(r, 16) & fields::places::zeros_from(r, 58) {
+        return specified;
+    }
     let found = specified.finding;
     let amount = specified.amount;
     Specified {
