@@ -1,10 +1,10 @@
--- An account's bytes by their weights, and what they have over the digits.
+-- An account's bytes by their weights, what they have over the digits, and how much the digits come to.
 -- Assumes nothing.
 use Prim.Native.Nat.{ℕ, _+_, _-_, _*_, _≤_}
 use mathlib.Core.Path.{_≡_, refl, ap, _∙_}
 use mathlib.Core.List.{List, [], _∷_}
 use mathlib.Core.Bool.{Bool, true, false}
-use native.Mathlib.Nat.{add-mul, not-suc-le-zero, le-of-suc-le-suc}
+use native.Mathlib.Nat.{add-mul, mul-le-mul-right, not-suc-le-zero, le-of-suc-le-suc}
 use native.Mathlib.Omega.{arith}
 use lib.ListN.{length}
 use Rattle.choice.specs.Choice.{if_then_else_}
@@ -13,7 +13,7 @@ use Rattle.account_numbers.specs.Accounts.{weights, weighted, accountOf,
 use Rattle.account_numbers.specs.OnTheWay.{weighed}
 use Rattle.account_numbers.specs.declared.Account.the-variants.{NotDigits}
 use Rattle.characters.proofs.Tests.{and-left, and-right}
-use Rattle.characters.proofs.Every.{digit-low}
+use Rattle.characters.proofs.Every.{digit-low, digit-high}
 
 total : List ℕ → ℕ
 total [] = 0
@@ -32,6 +32,19 @@ over (w ∷ ws) (b ∷ s) l h =
 pub digits-over : (s : List ℕ) → length s ≡ 11 → every isDigit s ≡ true → weighed weights s ≡ weighted weights s + 1968
 unfolding total
 digits-over s l h = over weights s (omega arith) h
+
+-- of digits, each is at most 9
+most : (ws s : List ℕ) → every isDigit s ≡ true → weighted ws s ≤ 9 * total ws
+unfolding every weighted total
+most [] s h = omega arith
+most (w ∷ ws) [] h = omega arith
+most (w ∷ ws) (b ∷ s) h =
+    let d : b - 48 ≤ 9 = omega (arith, digit-high b (and-left (isDigit b) (every isDigit s) h)) in
+    omega (arith, mul-le-mul-right w d, most ws s (and-right (isDigit b) (every isDigit s) h))
+
+pub digits-most : (s : List ℕ) → every isDigit s ≡ true → weighted weights s ≤ 369
+unfolding total
+digits-most s h = most weights s h
 
 -- the answer for digits, and for anything else
 module _ (s : List ℕ) where

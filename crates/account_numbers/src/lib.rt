@@ -3,7 +3,7 @@
 ghost use mathlib.Core.Path.{_≡_};
 ghost use Prim.Native.Nat.{_<_};
 ghost use lib.ListN.{length};
-ghost use Rattle.account_numbers.specs.Accounts.{weights, rightDigit, judged, accountOf};
+ghost use Rattle.account_numbers.specs.Accounts.{weights, rightDigit, judged, accountOf, isRight};
 ghost use Rattle.account_numbers.specs.OnTheWay.{weighed};
 use words::eleven_digits;
 
@@ -25,6 +25,18 @@ pub fn account_of(s: &[u8]) -> Account
     }
     // 1968 is 48 times the weights: what the bytes have over their digits
     judge(s[10] - 48, ((weigh(s) - 1968) % 11) as u8)
+}
+
+// The last digit is right: with weight 1 for it the sum of all eleven is a multiple of 11.
+pub fn is_right(s: &[u8]) -> bool
+    requires { ⌜ length (now s) ≡ 11 ⌝ }
+    ensures { λ r. ⌜ r ≡ isRight (accountOf (now (s .entry))) ⌝ }
+{
+    if !eleven_digits(s) {
+        return false;
+    }
+    // 2016 is 48 times the weights, the last one's 1 among them
+    (weigh(s) + wide(s[10]) - 2016) % 11 == 0
 }
 
 // The last digit against the remainder of the ten before it.

@@ -6,7 +6,7 @@ ghost use lib.ListN.{length};
 ghost use Rattle.characters.specs.Bytes.{every, isZero, same, part, Inside};
 ghost use Rattle.characters.specs.Classes.{inClass};
 ghost use Rattle.numbers.specs.Numbers.{numberOf, paired, codeOf};
-ghost use Rattle.account_numbers.specs.Accounts.{accountOf};
+ghost use Rattle.account_numbers.specs.Accounts.{accountOf, isRight};
 ghost use Rattle.references.specs.Kids.{atRight, isKid, isReference};
 ghost use Rattle.words.specs.Words.{bytesOf};
 use account_numbers::Account;
@@ -77,6 +77,14 @@ pub fn account_at(r: &[u8], from: usize, to: usize) -> Account
     ensures { λ a. ⌜ a ≡ accountOf (part from to (now (r .entry))) ⌝ }
 {
     account_numbers::account_of(&r[from - 1..to])
+}
+
+// An account of eleven digits whose last one is right.
+pub fn right_account_at(r: &[u8], from: usize) -> bool
+    requires { ⌜ Inside from (from + 10) (now r) ⌝ }
+    ensures { λ b. ⌜ b ≡ isRight (accountOf (part from (from + 10) (now (r .entry)))) ⌝ }
+{
+    account_numbers::is_right(&r[from - 1..from + 10])
 }
 
 // A KID field has 25 places.

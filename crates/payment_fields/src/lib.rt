@@ -7,7 +7,7 @@ ghost use Prim.Native.Nat.{ℕ};
 ghost use lib.Dec.{eqb};
 ghost use lib.ListN.{length};
 ghost use Rattle.fields.specs.Bytes.{part};
-ghost use Rattle.fields.specs.Accounts.{isRight, isNumber};
+ghost use Rattle.fields.specs.Accounts.{isNumber};
 ghost use Rattle.fields.specs.Kids.{atRight, isReference};
 ghost use Rattle.layout.specs.Rows.{member, firstFault};
 ghost use Rattle.rules.specs.Codes.{serviceCode, typeCode};
@@ -36,17 +36,6 @@ pub fn listed(service: u8, code: u8) -> bool
     (service == 4) & remitted(code)
 }
 
-fn is_right(account: Account) -> bool
-    ensures { λ x. ⌜ x ≡ isRight account ⌝ }
-{
-    match account {
-        Account::Right => true,
-        Account::WrongDigit(_digit) => false,
-        Account::NoRightDigit => false,
-        Account::NotDigits => false,
-    }
-}
-
 fn is_number(account: Account) -> bool
     ensures { λ x. ⌜ x ≡ isNumber account ⌝ }
 {
@@ -69,21 +58,20 @@ fn referred(r: &[u8], service: u8) -> bool
     false
 }
 
-// Field 7, payee or payer, of a record of the service. A right account is sound whatever the type.
+// Field 7, payee or payer, of a record of the service. A right account is sound whatever the type, and told at once.
 pub fn party(r: &[u8], service: u8) -> Finding
     requires { ⌜ (length (now r) ≡ 81) × (service ≡ serviceCode (now r)) ⌝ }
     ensures { λ x. ⌜ ((f : Totals) (ks : List ℕ) → x ≡ firstFault f ks (now (r .entry)) (party30 (now (r .entry)))) ⌝ }
 {
-    let account = fields::places::account_at(r, 22, 32);
-    let right = is_right(account);
-    if right {
+    if fields::places::right_account_at(r, 22) {
         return Finding::Sound;
     }
+    let account = fields::places::account_at(r, 22, 32);
     let code = fields::places::code_at(r, 5);
     let reference = referred(r, service);
     Finding::Sound
         .demand(is_number(account) | reference, 8, 7)
-        .demand(right | (reference | ((service != 1) & (code == 4))), 11, 7)
+        .demand(reference | ((service != 1) & (code == 4)), 11, 7)
 }
 
 // A KID of service 01, which takes only the right end.

@@ -2,7 +2,7 @@
 -- Assumes nothing.
 use Prim.Native.Nat.{ℕ}
 use mathlib.Core.Path.{_≡_, ap, ap₂, sym, _∙_}
-use mathlib.Core.Bool.{Bool, true, not, _&&_, _||_}
+use mathlib.Core.Bool.{Bool, true, false, not, _&&_, _||_}
 use mathlib.Core.List.{List}
 use lib.Dec.{eqb}
 use borrow.Author.Needs.{needs}
@@ -21,33 +21,34 @@ use Rattle.payment_fields.proofs.Accounts.{excused, number-in-account, 
 use Rattle.payment_fields.proofs.party.Statement.{statement}
 use Rattle.payment_fields.proofs.party.Tie as tie
 
--- the two rows as the code tests them
-as-code : (f : Totals) (ks r : List ℕ)
+-- the two rows as the code tests them, once it is told whether the account is right
+as-code : (f : Totals) (ks r : List ℕ) (right : Bool)
+    → isRight (accountOf (part 22 32 r)) ≡ right
     → firstFault f ks r (party30 r)
     ≡ demanded (demanded Sound (every isDigit (part 22 32 r) || eqb (serviceCode r) 1 && isReference (part 22 32 r)) 8 7)
-    (isRight (accountOf (part 22 32 r)) || (eqb (serviceCode r) 1 && isReference (part 22 32 r) || not (eqb (serviceCode r) 1) && eqb (typeCode r) 4)) 11 7
+    (right || (eqb (serviceCode r) 1 && isReference (part 22 32 r) || not (eqb (serviceCode r) 1) && eqb (typeCode r) 4)) 11 7
 unfolding partyForm partyRight
-as-code f ks r =
+as-code f ks r right h =
     demands f ks r (party30 r)
-    ∙ ap (λ (x : Bool). demanded (demanded Sound (every isDigit (part 22 32 r) || eqb (serviceCode r) 1 && isReference (part 22 32 r)) 8 7) (isRight (accountOf (part 22 32 r)) || x) 11 7)
-    (sym (excused (eqb (serviceCode r) 1) (isReference (part 22 32 r)) (eqb (typeCode r) 4)))
+    ∙ ap₂ (λ (x y : Bool). demanded (demanded Sound (every isDigit (part 22 32 r) || eqb (serviceCode r) 1 && isReference (part 22 32 r)) 8 7) (x || y) 11 7)
+    h (sym (excused (eqb (serviceCode r) 1) (isReference (part 22 32 r)) (eqb (typeCode r) 4)))
 
 right-sound : (f : Totals) (ks r : List ℕ) → isRight (accountOf (part 22 32 r)) ≡ true → firstFault f ks r (party30 r) ≡ Sound
 right-sound f ks r h =
-    as-code f ks r
-    ∙ ap₂ (λ (x y : Bool). demanded (demanded Sound (x || eqb (serviceCode r) 1 && isReference (part 22 32 r)) 8 7) (y || (eqb (serviceCode r) 1 && isReference (part 22 32 r) || not (eqb (serviceCode r) 1) && eqb (typeCode r) 4)) 11 7)
-    (right-digits (part 22 32 r) h) h
+    as-code f ks r true h
+    ∙ ap (λ (x : Bool). demanded (demanded Sound (x || eqb (serviceCode r) 1 && isReference (part 22 32 r)) 8 7) true 11 7)
+    (right-digits (part 22 32 r) h)
 
-account-at-requires : tie.Need-account-at-requires
-account-at-requires c κs = search needs
-
-is-right-requires : tie.Need-is-right-requires
-is-right-requires c κs = search needs
+right-account-at-requires : tie.Need-right-account-at-requires
+right-account-at-requires c κs = search needs
 
 returns : tie.Need-returns
 returns c = λ f ks.
     let p = c .before in
-    sym (right-sound f ks (p .before .before .before .args .r .now) (sym (p .is-right .ensures ∙ ap isRight (p .before .account-at .ensures)) ∙ c .if1 .taken))
+    sym (right-sound f ks (p .before .before .args .r .now) (sym (p .right-account-at .ensures) ∙ c .if1 .taken))
+
+account-at-requires : tie.Need-account-at-requires
+account-at-requires c κs = search needs
 
 code-at-requires : tie.Need-code-at-requires
 code-at-requires c κs = search needs
@@ -67,18 +68,19 @@ demand-requires-2 c κs = search needs
 returns-2 : tie.Need-returns-2
 returns-2 c = λ f ks.
     let q = c .before .before .before in
-    let p = q .before .before .before in
-    let s = p .before .before .before in
-    simp (c .demand2 .ensures, c .before .demand .ensures, c .before .before .is-number .ensures, p .is-right .ensures, p .before .account-at .ensures, q .referred .ensures, q .before .code-at .ensures, s .pre .1, number-in-account (part 22 32 (s .args .r .now)))
-    (sym (as-code f ks (s .args .r .now)))
+    let p = q .before .before in
+    let t = p .before .before in
+    let s = t .before .before in
+    simp (c .demand2 .ensures, c .before .demand .ensures, c .before .before .is-number .ensures, p .account-at .ensures, q .referred .ensures, q .before .code-at .ensures, s .pre .1, number-in-account (part 22 32 (s .args .r .now)))
+    (sym (as-code f ks (s .args .r .now) false (sym (t .right-account-at .ensures) ∙ p .before .if1 .left)))
 
 pub party-spec : {M : Type 1} → statement M
 party-spec =
     tie.close
     (tie.spec
-    account-at-requires
-    is-right-requires
+    right-account-at-requires
     returns
+    account-at-requires
     code-at-requires
     referred-requires
     is-number-requires
