@@ -1,9 +1,8 @@
 // The office's tool over whole files: pay check, close, join and part.
 
-mod asked;
-mod help;
-
-use asked::Command;
+use asking::asked;
+use asking::asked::Command;
+use asking::help;
 use figures::totals::Totals;
 use outputs::Output;
 use outputs::Parts;

@@ -5,7 +5,7 @@ use Rattle.pay.proofs.join.Tie as tie
 use Rattle.pay.proofs.join.Reads as reads
 use Rattle.pay.proofs.join.Lts as lts
 use Rattle.outputs.proofs.join.Reads as join-reads
-use Rattle.pay.proofs.asked.day.Reads as day-reads
+use Rattle.asking.proofs.asked.day.Reads as day-reads
 use Rattle.pay.proofs.keep.Reads as keep-reads
 use Rattle.pay.proofs.tell_which.Reads as tell-which-reads
 

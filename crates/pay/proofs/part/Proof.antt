@@ -5,8 +5,8 @@ use Rattle.pay.proofs.part.Tie as tie
 use Rattle.pay.proofs.part.Reads as reads
 use Rattle.pay.proofs.part.Lts as lts
 use Rattle.outputs.proofs.part.Reads as part-reads
-use Rattle.pay.proofs.asked.boundary.Reads as boundary-reads
-use Rattle.pay.proofs.asked.day.Reads as day-reads
+use Rattle.asking.proofs.asked.boundary.Reads as boundary-reads
+use Rattle.asking.proofs.asked.day.Reads as day-reads
 use Rattle.pay.proofs.keep_parts.Reads as keep-parts-reads
 use Rattle.pay.proofs.tell_not_parted.Reads as tell-not-parted-reads
 

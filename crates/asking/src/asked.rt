@@ -1,5 +1,8 @@
 // What the command line asks: the command, the process day, the number of assignments.
 
+ghost use mathlib.Core.Path.{_≡_};
+ghost use Rattle.fields.specs.Bytes.{same};
+ghost use Rattle.asking.specs.Words.{commandFrom, wordsOf, noDay, dayFrom, numberFrom};
 use dates::ProcessDay;
 use fields::digits::Digits;
 
@@ -12,14 +15,18 @@ pub enum Command {
     Unknown,
 }
 
-fn is_word(s: &[u8], word: &[u8]) -> bool {
+fn is_word(s: &[u8], word: &[u8]) -> bool
+    ensures { λ x. ⌜ x ≡ same (now (s .entry)) (now (word .entry)) ⌝ }
+{
     if s.len() != word.len() {
         return false;
     }
     fields::texts::same_bytes(s, word)
 }
 
-fn command_from(word: &[u8]) -> Command {
+fn command_from(word: &[u8]) -> Command
+    ensures { λ x. ⌜ x ≡ commandFrom (now (word .entry)) ⌝ }
+{
     if is_word(word, b"check") {
         return Command::Check;
     }
@@ -45,7 +52,9 @@ pub fn order_given() -> Command {
 }
 
 // How many words a command line of this command has, the program's own among them; 0 where there is no such command.
-pub fn words_of(command: Command) -> usize {
+pub fn words_of(command: Command) -> usize
+    ensures { λ n. ⌜ n ≡ wordsOf command ⌝ }
+{
     match command {
         Command::Check => 4,
         Command::Close => 5,
@@ -57,7 +66,9 @@ pub fn words_of(command: Command) -> usize {
 }
 
 // A day of another form than DDMMYY is no date.
-fn no_day() -> ProcessDay {
+fn no_day() -> ProcessDay
+    ensures { λ x. ⌜ x ≡ noDay ⌝ }
+{
     ProcessDay {
         year: 0,
         month: 0,
@@ -65,7 +76,9 @@ fn no_day() -> ProcessDay {
     }
 }
 
-fn day_from(word: &[u8]) -> ProcessDay {
+fn day_from(word: &[u8]) -> ProcessDay
+    ensures { λ x. ⌜ x ≡ dayFrom (now (word .entry)) ⌝ }
+{
     if word.len() != 6 {
         return no_day();
     }
@@ -82,7 +95,9 @@ pub fn day() -> ProcessDay {
 }
 
 // A word that is no number is 0, which is no boundary.
-fn number_from(word: &[u8]) -> u64 {
+fn number_from(word: &[u8]) -> u64
+    ensures { λ n. ⌜ n ≡ numberFrom (now (word .entry)) ⌝ }
+{
     if 17 < word.len() {
         return 0;
     }
