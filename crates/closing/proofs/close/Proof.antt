@@ -10,8 +10,8 @@ use Rattle.closing.proofs.close.Tie as tie
 use Rattle.closing.proofs.close.Reads as reads
 use Rattle.closing.proofs.close.Lts as lts
 use Rattle.checking.proofs.refuse.Reads as refuse-reads
-use Rattle.closing.proofs.weigh.Reads as weigh-reads
-use Rattle.closing.proofs.write.Reads as write-reads
+use Rattle.weighing.proofs.weigh.Reads as weigh-reads
+use Rattle.ending.proofs.write.Reads as write-reads
 use Rattle.dates.proofs.ProcessDay.window.Reads as window-reads
 
 window-requires : tie.Need-window-requires

@@ -47,7 +47,7 @@ use Rattle.drafts.proofs.Walk.{next-of, laid, plain, holds, step-on, step-turne
 use Rattle.summing.specs.Sums.{entry, Legible, Holding}
 use Rattle.summing.proofs.Held.{Small, AllSmall, entry-is, legible, held-next}
 use Rattle.summing.proofs.Assignments.{AllListed, all-listed, gains-bounded, figures-of}
-use Rattle.closing.specs.Weighed.{span, endOf, InDraft, Weighed}
+use Rattle.ending.specs.Weighed.{span, endOf, InDraft, Weighed}
 
 -- ---- records and bytes
 span-is : (k n : ℕ) (d : List ℕ) → k ≤ n → n ≤ length d / 81 → bytesOf (between k n d) ≡ span k n d

@@ -6,13 +6,13 @@ use native.Mathlib.Omega.{arith}
 use borrow.Author.Needs.{needs}
 use lib.ListN.{length}
 use Rattle.operations.specs.Closing.{closedFile}
-use Rattle.closing.specs.Weighed.{Weighed}
-use Rattle.closing.proofs.Files.{Going, Reading, reading-start, may-read, takes-end, block-is, reading-next, at-hand, more-records, going-start, start-fits, over-start, out-long, at-within, ends-within, has-room, going-next, last-room, going-last, over-length}
-use Rattle.closing.proofs.write.Statement.{statement}
-use Rattle.closing.proofs.write.Tie as tie
-use Rattle.closing.proofs.write.Reads as reads
-use Rattle.closing.proofs.write.Lts as lts
-use Rattle.closing.proofs.put_assignment.Reads as put-assignment-reads
+use Rattle.ending.specs.Weighed.{Weighed}
+use Rattle.ending.proofs.Files.{Going, Reading, reading-start, may-read, takes-end, block-is, reading-next, at-hand, more-records, going-start, start-fits, over-start, out-long, at-within, ends-within, has-room, going-next, last-room, going-last, over-length}
+use Rattle.ending.proofs.write.Statement.{statement}
+use Rattle.ending.proofs.write.Tie as tie
+use Rattle.ending.proofs.write.Reads as reads
+use Rattle.ending.proofs.write.Lts as lts
+use Rattle.ending.proofs.put_assignment.Reads as put-assignment-reads
 use Rattle.writing.proofs.copy_to.Reads as copy-to-reads
 use Rattle.writing.proofs.put_end.Reads as put-end-reads
 use Rattle.figures.proofs.totals.AssignmentTotals.with_record.Reads as with-record-reads

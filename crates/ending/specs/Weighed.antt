@@ -17,11 +17,6 @@ use Rattle.rules.specs.Codes.{serviceCode, codeFor, serviceFor}
 use Rattle.rules.specs.Growth.{start, gains, turns}
 use Rattle.rules.specs.Run.{badLength, recordsOf}
 use Rattle.rules.specs.declared.Mode.the-variants.{Draft}
-use Rattle.rules.specs.declared.Verdict.{Verdict}
-use Rattle.rules.specs.declared.Verdict.the-variants.{Accepted}
-use Rattle.running.specs.Figured.{blocks}
-use Rattle.running.specs.Kept.{Roomy}
-use Rattle.summing.specs.Sums.{Holding}
 
 -- the bytes of the records from the k-th to before the n-th
 abbrev pub span : ℕ → ℕ → List ℕ → List ℕ
@@ -35,15 +30,6 @@ endOf d k t = endRecord (codeFor (serviceFor (serviceCode (recordAt k d)))) 88 (
 pub record InDraft (d : List ℕ) (k n : ℕ) : Type 0 where
   pub more : k < n
   pub most : n ≤ length d / 81
-
--- figures that leave room for the end records
-pub record CanClose (t : Totals) : Type 0 where
-  pub records : t .records .0 ≤ 200000
-  pub assignments : t .assignments .0 ≤ 200000
-
--- the figures that are left of the assignments of an accepted draft
-pub record LeftBy (d kept : List ℕ) (x : Verdict) : Type 0 where
-  pub figures : (t : Totals) → x ≡ Accepted t → Roomy kept → Holding kept 0 (blocks (start .assignment) (recordsOf d))
 
 -- a sound draft, and the figures of the file to be written for it
 pub record Weighed (d : List ℕ) (figures : Totals) : Type 0 where

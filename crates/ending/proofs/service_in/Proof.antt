@@ -1,10 +1,10 @@
 -- Assumes nothing.
-use Rattle.closing.proofs.Counting.{charges, remits}
+use Rattle.ending.proofs.Services.{charges, remits}
 use borrow.Author.Needs.{needs}
-use Rattle.closing.proofs.service_in.Statement.{statement}
-use Rattle.closing.proofs.service_in.Tie as tie
-use Rattle.closing.proofs.service_in.Reads as reads
-use Rattle.closing.proofs.service_in.Lts as lts
+use Rattle.ending.proofs.service_in.Statement.{statement}
+use Rattle.ending.proofs.service_in.Tie as tie
+use Rattle.ending.proofs.service_in.Reads as reads
+use Rattle.ending.proofs.service_in.Lts as lts
 use Rattle.fields.proofs.places.code_at.Reads as code-at-reads
 
 code-at-requires : tie.Need-code-at-requires

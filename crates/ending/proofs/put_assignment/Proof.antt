@@ -1,13 +1,13 @@
 -- The assignment's bytes as they stand, and its end directly behind them.
 -- Assumes nothing.
 use mathlib.Core.Path.{refl}
-use Rattle.closing.proofs.Files.{assignment-put}
+use Rattle.ending.proofs.Files.{assignment-put}
 use borrow.Author.Needs.{needs}
-use Rattle.closing.proofs.put_assignment.Statement.{statement}
-use Rattle.closing.proofs.put_assignment.Tie as tie
-use Rattle.closing.proofs.put_assignment.Reads as reads
-use Rattle.closing.proofs.put_assignment.Lts as lts
-use Rattle.closing.proofs.service_in.Reads as service-in-reads
+use Rattle.ending.proofs.put_assignment.Statement.{statement}
+use Rattle.ending.proofs.put_assignment.Tie as tie
+use Rattle.ending.proofs.put_assignment.Reads as reads
+use Rattle.ending.proofs.put_assignment.Lts as lts
+use Rattle.ending.proofs.service_in.Reads as service-in-reads
 use Rattle.writing.proofs.copy_to.Reads as copy-to-reads
 use Rattle.writing.proofs.put_end.Reads as put-end-reads
 

@@ -2,16 +2,16 @@
 -- Assumes nothing.
 use mathlib.Core.Path.{refl, sym, _∙_}
 use native.Mathlib.Omega.{arith}
-use Rattle.closing.proofs.Answers.{wrong-length, full, too-many-opened, on-refused, too-many-closed, on-accepted, can-close, leaves-none, leaves-figures}
+use Rattle.weighing.proofs.Answers.{wrong-length, full, too-many-opened, on-refused, too-many-closed, on-accepted, can-close, leaves-none, leaves-figures}
 use borrow.Author.Needs.{needs}
-use Rattle.closing.proofs.weigh.Statement.{statement}
-use Rattle.closing.proofs.weigh.Tie as tie
-use Rattle.closing.proofs.weigh.Reads as reads
-use Rattle.closing.proofs.weigh.Lts as lts
+use Rattle.weighing.proofs.weigh.Statement.{statement}
+use Rattle.weighing.proofs.weigh.Tie as tie
+use Rattle.weighing.proofs.weigh.Reads as reads
+use Rattle.weighing.proofs.weigh.Lts as lts
 use Rattle.checking.proofs.bad_length.Reads as bad-length-reads
 use Rattle.checking.proofs.refuse.Reads as refuse-reads
-use Rattle.closing.proofs.closed_figures.Reads as closed-figures-reads
-use Rattle.closing.proofs.openings_in.Reads as openings-in-reads
+use Rattle.weighing.proofs.closed_figures.Reads as closed-figures-reads
+use Rattle.weighing.proofs.openings_in.Reads as openings-in-reads
 use Rattle.running.proofs.run_over.Reads as run-over-reads
 
 bad-length-requires : tie.Need-bad-length-requires

@@ -6,12 +6,12 @@ use native.Mathlib.Omega.{arith}
 use borrow.Author.Needs.{needs}
 use lib.ListN.{length}
 use Rattle.drafts.proofs.Walk.{handed}
-use Rattle.closing.proofs.Counting.{Counted, counted-none, counted-next, counted-all, one-at-most}
-use Rattle.closing.proofs.openings_in.Statement.{statement}
-use Rattle.closing.proofs.openings_in.Tie as tie
-use Rattle.closing.proofs.openings_in.Reads as reads
-use Rattle.closing.proofs.openings_in.Lts as lts
-use Rattle.closing.proofs.opening.Reads as opening-reads
+use Rattle.weighing.proofs.Counting.{Counted, counted-none, counted-next, counted-all, one-at-most}
+use Rattle.weighing.proofs.openings_in.Statement.{statement}
+use Rattle.weighing.proofs.openings_in.Tie as tie
+use Rattle.weighing.proofs.openings_in.Reads as reads
+use Rattle.weighing.proofs.openings_in.Lts as lts
+use Rattle.weighing.proofs.opening.Reads as opening-reads
 
 abbrev Inv-loop : tie.InvT-loop
 Inv-loop draft count found₀ k₀ found k = Counted draft found k × (count ≡ length draft / 81)

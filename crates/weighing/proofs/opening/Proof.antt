@@ -1,10 +1,10 @@
 -- Assumes nothing.
-use Rattle.closing.proofs.Counting.{opened, not-opened}
+use Rattle.weighing.proofs.Counting.{opened, not-opened}
 use borrow.Author.Needs.{needs}
-use Rattle.closing.proofs.opening.Statement.{statement}
-use Rattle.closing.proofs.opening.Tie as tie
-use Rattle.closing.proofs.opening.Reads as reads
-use Rattle.closing.proofs.opening.Lts as lts
+use Rattle.weighing.proofs.opening.Statement.{statement}
+use Rattle.weighing.proofs.opening.Tie as tie
+use Rattle.weighing.proofs.opening.Reads as reads
+use Rattle.weighing.proofs.opening.Lts as lts
 use Rattle.fields.proofs.places.code_at.Reads as code-at-reads
 
 code-at-requires : tie.Need-code-at-requires

@@ -8,9 +8,8 @@ use native.Mathlib.Omega.{arith}
 use borrow.Author.Tests.{eq-eqb, ne-eqb}
 use lib.ListN.{length}
 use Rattle.choice.specs.Choice.{if_then_else_}
-use Rattle.dates.specs.declared.Service.the-variants.{Autogiro, Remittance}
 use Rattle.operations.specs.Closing.{opens, openings}
-use Rattle.rules.specs.Codes.{serviceCode, recordCode, codeFor, serviceFor}
+use Rattle.rules.specs.Codes.{recordCode}
 use Rattle.rules.specs.Run.{recordsOf}
 use Rattle.running.proofs.Records.{rest, rest-next, rest-end, rest-start, part-is}
 use Rattle.drafts.specs.Block.{recordAt}
@@ -60,10 +59,3 @@ unfolding openings
 counted-all d found k c h =
     let s : openings (rest d (length d / 81) k) ≡ 0 = ap openings (rest-end d (length d / 81) k (omega (arith, c .within))) in
     (omega (arith, c .same, s), omega (arith, c .few, c .within))
-
--- ---- the service that a record 20 names
-pub charges : (r : List ℕ) (n : ℕ) → n ≡ serviceCode r → n ≡ 1 → 1 ≡ codeFor (serviceFor (serviceCode r))
-charges r n e h = ap (λ (x : ℕ). codeFor (serviceFor x)) (sym (sym e ∙ h))
-
-pub remits : (r : List ℕ) (n : ℕ) → n ≡ serviceCode r → (n ≡ 1 → ⊥) → 4 ≡ codeFor (serviceFor (serviceCode r))
-remits r n e h = ap (λ (b : Bool). codeFor (if b then Autogiro else Remittance)) (sym (ne-eqb (serviceCode r) 1 (λ q. h (e ∙ q))))
