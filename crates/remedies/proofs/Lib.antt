@@ -1,3 +1,1 @@
-pub mod Grow
-pub mod Sound
-pub mod Values
+pub mod Asked

@@ -1,51 +1,24 @@
 // What would be right in the place of a refused field, where the rules know it.
 
-pub mod behind;
-
 ghost use mathlib.Core.Path.{_≡_};
 ghost use lib.ListN.{length};
 ghost use Rattle.figures.specs.Totals.{none};
 ghost use Rattle.fields.specs.Accounts.{accountOf};
 ghost use Rattle.rules.specs.Codes.{codeFor};
 ghost use Rattle.rules.specs.Run.{recordsOf};
-ghost use Rattle.remedies.specs.Behind.{outsideOf, behindOf, Followed};
-ghost use Rattle.remedies.specs.Right.{fixedBehind1, fixedFor, accountPart, accountFor, nextNumber, repeatedFor, figureIn, figureFor, remedyOf, atHand, allowedAt};
-use behind::Behind;
+ghost use Rattle.left_behind.specs.Behind.{outsideOf, behindOf, Followed};
+ghost use Rattle.remedies.specs.Right.{accountPart, accountFor, nextNumber, repeatedFor, figureIn, figureFor, remedyOf, atHand, allowedAt};
 use dates::Service;
 use fields::accounts::Account;
 use figures::amounts::Amount;
 use figures::groups::Group;
 use figures::totals::Totals;
+pub use fixed_values::Choice;
+pub use fixed_values::Remedy;
+use left_behind::Behind;
 use rules::Assignment;
 use rules::Kind;
 use rules::Mode;
-
-// Values that a field chooses from.
-pub enum Choice {
-    Services,
-    ClaimTypes,
-    RemittanceTypes,
-    SpecificationTypes,
-    Lines,
-    Columns,
-}
-
-pub enum Remedy {
-    // the rules do not know it
-    Unknown,
-    // this number, in so many digits
-    Value(u64, u8),
-    // the letters NY
-    Start,
-    Zeros,
-    OneOf(Choice),
-    // a first number above 0, and none behind 9999999
-    AboveZero,
-    NoneLeft,
-    // the account's last digit; none where the ten before it cannot be right
-    Digit(u8),
-    NoDigit,
-}
 
 // The record types that may stand in a place.
 pub struct Allowed {
@@ -58,92 +31,6 @@ pub struct Allowed {
     pub r50: bool,
     pub r88: bool,
     pub r89: bool,
-}
-
-// The fixed value of a field of a record 10, which has no service and no type.
-fn fixed_start(field: u8) -> Remedy
-    ensures { λ x. ⌜ x ≡ fixedBehind1 Kind.R10 field 0 ⌝ }
-{
-    match field {
-        2 => Remedy::Value(0, 2),
-        3 => Remedy::Value(0, 2),
-        7 => Remedy::Value(8080, 8),
-        _ => Remedy::Zeros,
-    }
-}
-
-fn fixed_assignment(field: u8) -> Remedy
-    ensures { λ x. ⌜ x ≡ fixedBehind1 Kind.R20 field 0 ⌝ }
-{
-    match field {
-        2 => Remedy::OneOf(Choice::Services),
-        3 => Remedy::Value(0, 2),
-        _ => Remedy::Zeros,
-    }
-}
-
-// Each service has its own types of record 30.
-fn fixed_payment(field: u8, service: u8) -> Remedy
-    ensures { λ x. ⌜ x ≡ fixedBehind1 Kind.R30 field service ⌝ }
-{
-    if field != 3 {
-        return Remedy::Zeros;
-    }
-    if service == 1 {
-        return Remedy::OneOf(Choice::ClaimTypes);
-    }
-    Remedy::OneOf(Choice::RemittanceTypes)
-}
-
-fn fixed_message(field: u8) -> Remedy
-    ensures { λ x. ⌜ x ≡ fixedBehind1 Kind.R49 field 0 ⌝ }
-{
-    match field {
-        6 => Remedy::Value(3, 1),
-        7 => Remedy::OneOf(Choice::Lines),
-        8 => Remedy::OneOf(Choice::Columns),
-        _ => Remedy::Zeros,
-    }
-}
-
-fn fixed_specification(field: u8) -> Remedy
-    ensures { λ x. ⌜ x ≡ fixedBehind1 Kind.R50 field 0 ⌝ }
-{
-    match field {
-        3 => Remedy::OneOf(Choice::SpecificationTypes),
-        _ => Remedy::Zeros,
-    }
-}
-
-fn fixed_end(field: u8) -> Remedy
-    ensures { λ x. ⌜ x ≡ fixedBehind1 Kind.R88 field 0 ⌝ }
-{
-    match field {
-        2 => Remedy::Value(0, 2),
-        3 => Remedy::Value(0, 2),
-        _ => Remedy::Zeros,
-    }
-}
-
-// What a field must have that is refused with 7.
-fn fixed(kind: Kind, field: u8, service: u8) -> Remedy
-    ensures { λ x. ⌜ x ≡ fixedFor kind field service ⌝ }
-{
-    if field == 1 {
-        return Remedy::Start;
-    }
-    match kind {
-        Kind::R10 => fixed_start(field),
-        Kind::R20 => fixed_assignment(field),
-        Kind::R30 => fixed_payment(field, service),
-        Kind::R31 => Remedy::Zeros,
-        Kind::R40 => Remedy::Zeros,
-        Kind::R49 => fixed_message(field),
-        Kind::R50 => fixed_specification(field),
-        Kind::R88 => fixed_end(field),
-        Kind::R89 => fixed_end(field),
-        Kind::Other => Remedy::Unknown,
-    }
 }
 
 // A digit that is wrong in an account.
@@ -248,10 +135,10 @@ pub fn right_for(number: u8, field: u8, before: &[u8], r: &[u8]) -> Remedy
     }
     let kind = order::kind_of(r);
     match number {
-        7 => fixed(kind, field, fields::places::code_at(r, 3)),
+        7 => fixed_values::fixed(kind, field, fields::places::code_at(r, 3)),
         11 => account(kind, r),
-        12 => repeated(kind, field, behind::left_by(before)),
-        18 => figure_of(kind, field, behind::left_by(before)),
+        12 => repeated(kind, field, left_behind::left_by(before)),
+        18 => figure_of(kind, field, left_behind::left_by(before)),
         _ => Remedy::Unknown,
     }
 }
@@ -283,7 +170,7 @@ fn at_hand(b: Behind) -> Assignment
 pub fn allowed_behind(mode: Mode, before: &[u8]) -> Allowed
     ensures { λ x. ⌜ (Followed (outsideOf Kind.Other none) (recordsOf (now (before .entry))) → x ≡ allowedAt mode (behindOf (recordsOf (now (before .entry))))) ⌝ }
 {
-    allowed_at(mode, behind::left_by(before))
+    allowed_at(mode, left_behind::left_by(before))
 }
 
 fn allowed_at(mode: Mode, b: Behind) -> Allowed

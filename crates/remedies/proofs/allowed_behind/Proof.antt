@@ -6,7 +6,7 @@ use Rattle.remedies.proofs.allowed_behind.Tie as tie
 use Rattle.remedies.proofs.allowed_behind.Reads as reads
 use Rattle.remedies.proofs.allowed_behind.Lts as lts
 use Rattle.remedies.proofs.allowed_at.Reads as allowed-at-reads
-use Rattle.remedies.proofs.behind.left_by.Reads as left-by-reads
+use Rattle.left_behind.proofs.left_by.Reads as left-by-reads
 
 left-by-requires : tie.Need-left-by-requires
 left-by-requires c κs = search needs

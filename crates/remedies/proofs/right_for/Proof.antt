@@ -1,5 +1,6 @@
-use Rattle.remedies.specs.Right.{fixedFor, accountFor, repeatedFor, figureFor, remedyOf}
-use Rattle.remedies.specs.declared.behind.Behind.{Behind}
+use Rattle.fixed_values.specs.Fixed.{fixedFor}
+use Rattle.remedies.specs.Right.{accountFor, repeatedFor, figureFor, remedyOf}
+use Rattle.left_behind.specs.declared.Behind.{Behind}
 use Rattle.rules.specs.declared.Kind.{Kind}
 use borrow.Author.Tests.{ne-eqb}
 use mathlib.Core.List.{List}
@@ -13,9 +14,9 @@ use Rattle.remedies.proofs.right_for.Lts as lts
 use Rattle.fields.proofs.places.code_at.Reads as code-at-reads
 use Rattle.order.proofs.kind_of.Reads as kind-of-reads
 use Rattle.remedies.proofs.account.Reads as account-reads
-use Rattle.remedies.proofs.behind.left_by.Reads as left-by-reads
+use Rattle.left_behind.proofs.left_by.Reads as left-by-reads
 use Rattle.remedies.proofs.figure_of.Reads as figure-of-reads
-use Rattle.remedies.proofs.fixed.Reads as fixed-reads
+use Rattle.fixed_values.proofs.fixed.Reads as fixed-reads
 use Rattle.remedies.proofs.repeated.Reads as repeated-reads
 
 returns : tie.Need-returns
