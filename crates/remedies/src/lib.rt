@@ -4,15 +4,12 @@ ghost use mathlib.Core.Path.{_≡_};
 ghost use lib.ListN.{length};
 ghost use Rattle.figures.specs.Totals.{none};
 ghost use Rattle.fields.specs.Accounts.{accountOf};
-ghost use Rattle.rules.specs.Codes.{codeFor};
 ghost use Rattle.rules.specs.Run.{recordsOf};
 ghost use Rattle.left_behind.specs.Behind.{outsideOf, behindOf, Followed};
-ghost use Rattle.remedies.specs.Right.{accountPart, accountFor, nextNumber, repeatedFor, figureIn, figureFor, remedyOf, atHand, allowedAt};
-use dates::Service;
+ghost use Rattle.remedies.specs.Right.{accountPart, accountFor, remedyOf, atHand, allowedAt};
 use fields::accounts::Account;
 use figures::amounts::Amount;
 use figures::groups::Group;
-use figures::totals::Totals;
 pub use fixed_values::Choice;
 pub use fixed_values::Remedy;
 use left_behind::Behind;
@@ -56,76 +53,6 @@ fn account_in(kind: Kind, r: &[u8]) -> Account
     fields::places::account_at(r, 22, 32)
 }
 
-fn code_for(service: Service) -> u64
-    ensures { λ x. ⌜ x ≡ codeFor service ⌝ }
-{
-    match service {
-        Service::Autogiro => 1,
-        Service::Remittance => 4,
-    }
-}
-
-// The number of a record 30 behind this one.
-fn next_number(number: u64) -> Remedy
-    ensures { λ x. ⌜ x ≡ nextNumber number ⌝ }
-{
-    if number == 0 {
-        return Remedy::AboveZero;
-    }
-    if 9999999 <= number {
-        return Remedy::NoneLeft;
-    }
-    Remedy::Value(number + 1, 7)
-}
-
-// What a field must repeat that is refused with 12: the service, the type, the transaction number or the next one.
-fn repeated(kind: Kind, field: u8, b: Behind) -> Remedy
-    ensures { λ x. ⌜ x ≡ repeatedFor kind field b ⌝ }
-{
-    let service = b.service;
-    let number = b.number;
-    if field == 2 {
-        return Remedy::Value(code_for(service), 2);
-    }
-    if field == 3 {
-        return Remedy::Value(b.code as u64, 2);
-    }
-    if order::number_of(kind) == 30 {
-        return next_number(number.0 as u64);
-    }
-    Remedy::Value(number.0 as u64, 7)
-}
-
-// A figure of an end record, which counts itself.
-fn figure(field: u8, t: Totals, b: Behind) -> Remedy
-    ensures { λ x. ⌜ x ≡ figureIn field t b ⌝ }
-{
-    let transactions = t.transactions;
-    let records = t.records;
-    let sum = t.sum;
-    let first = t.first;
-    let totals = b.totals;
-    match field {
-        5 => Remedy::Value(transactions.0 as u64, 8),
-        6 => Remedy::Value(records.0 as u64 + 1, 8),
-        7 => Remedy::Value(sum.0, 17),
-        8 => Remedy::Value(dates::ddmmyy_of(first), 6),
-        _ => Remedy::Value(dates::ddmmyy_of(totals.last), 6),
-    }
-}
-
-// An 89 has the file's figures, an 88 its assignment's.
-fn figure_of(kind: Kind, field: u8, b: Behind) -> Remedy
-    ensures { λ x. ⌜ x ≡ figureFor kind field b ⌝ }
-{
-    let file = b.file;
-    let totals = b.totals;
-    if order::number_of(kind) == 89 {
-        return figure(field, file, b);
-    }
-    figure(field, totals.totals, b)
-}
-
 // What would be right in this field of the record behind the others.
 pub fn right_for(number: u8, field: u8, before: &[u8], r: &[u8]) -> Remedy
     ensures { λ x. ⌜ (length (now (r .entry)) ≡ 81 → Followed (outsideOf Kind.Other none) (recordsOf (now (before .entry))) → x ≡ remedyOf number field (behindOf (recordsOf (now (before .entry)))) (now (r .entry))) ⌝ }
@@ -137,8 +64,8 @@ pub fn right_for(number: u8, field: u8, before: &[u8], r: &[u8]) -> Remedy
     match number {
         7 => fixed_values::fixed(kind, field, fields::places::code_at(r, 3)),
         11 => account(kind, r),
-        12 => repeated(kind, field, left_behind::left_by(before)),
-        18 => figure_of(kind, field, left_behind::left_by(before)),
+        12 => expected_values::repeated(kind, field, left_behind::left_by(before)),
+        18 => expected_values::figure_of(kind, field, left_behind::left_by(before)),
         _ => Remedy::Unknown,
     }
 }

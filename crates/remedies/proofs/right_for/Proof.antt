@@ -1,5 +1,6 @@
 use Rattle.fixed_values.specs.Fixed.{fixedFor}
-use Rattle.remedies.specs.Right.{accountFor, repeatedFor, figureFor, remedyOf}
+use Rattle.expected_values.specs.Expected.{repeatedFor, figureFor}
+use Rattle.remedies.specs.Right.{accountFor, remedyOf}
 use Rattle.left_behind.specs.declared.Behind.{Behind}
 use Rattle.rules.specs.declared.Kind.{Kind}
 use borrow.Author.Tests.{ne-eqb}
@@ -15,9 +16,9 @@ use Rattle.fields.proofs.places.code_at.Reads as code-at-reads
 use Rattle.order.proofs.kind_of.Reads as kind-of-reads
 use Rattle.remedies.proofs.account.Reads as account-reads
 use Rattle.left_behind.proofs.left_by.Reads as left-by-reads
-use Rattle.remedies.proofs.figure_of.Reads as figure-of-reads
+use Rattle.expected_values.proofs.figure_of.Reads as figure-of-reads
 use Rattle.fixed_values.proofs.fixed.Reads as fixed-reads
-use Rattle.remedies.proofs.repeated.Reads as repeated-reads
+use Rattle.expected_values.proofs.repeated.Reads as repeated-reads
 
 returns : tie.Need-returns
 returns c = λ e f. absurd (c .if1 .taken e)

@@ -1,10 +1,10 @@
-use Rattle.remedies.specs.Right.{nextNumber}
+use Rattle.expected_values.specs.Expected.{nextNumber}
 use borrow.Author.Tests.{eq-eqb, ne-eqb, le-leb, lt-leb}
 use borrow.Author.Needs.{needs}
-use Rattle.remedies.proofs.next_number.Statement.{statement}
-use Rattle.remedies.proofs.next_number.Tie as tie
-use Rattle.remedies.proofs.next_number.Reads as reads
-use Rattle.remedies.proofs.next_number.Lts as lts
+use Rattle.expected_values.proofs.next_number.Statement.{statement}
+use Rattle.expected_values.proofs.next_number.Tie as tie
+use Rattle.expected_values.proofs.next_number.Reads as reads
+use Rattle.expected_values.proofs.next_number.Lts as lts
 
 returns : tie.Need-returns
 unfolding nextNumber

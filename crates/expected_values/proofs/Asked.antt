@@ -12,7 +12,7 @@ use Rattle.rules.specs.declared.Kind.the-variants.{R88, R89}
 use Rattle.left_behind.specs.Behind.{told}
 use Rattle.fixed_values.specs.declared.Remedy.{Remedy}
 use Rattle.fixed_values.specs.declared.Remedy.the-variants.{Unknown, Value, Start, Zeros, OneOf, AboveZero, NoneLeft, Digit, NoDigit}
-use Rattle.remedies.specs.Right.{figureIn, figureFor}
+use Rattle.expected_values.specs.Expected.{figureIn, figureFor}
 
 -- the number that is shown
 abbrev shown : Remedy → ℕ

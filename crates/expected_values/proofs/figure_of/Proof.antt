@@ -1,12 +1,12 @@
-use Rattle.remedies.specs.Right.{figureFor}
+use Rattle.expected_values.specs.Expected.{figureFor}
 use borrow.Author.Tests.{eq-eqb, ne-eqb}
 use borrow.Author.Needs.{needs}
-use Rattle.remedies.proofs.figure_of.Statement.{statement}
-use Rattle.remedies.proofs.figure_of.Tie as tie
-use Rattle.remedies.proofs.figure_of.Reads as reads
-use Rattle.remedies.proofs.figure_of.Lts as lts
+use Rattle.expected_values.proofs.figure_of.Statement.{statement}
+use Rattle.expected_values.proofs.figure_of.Tie as tie
+use Rattle.expected_values.proofs.figure_of.Reads as reads
+use Rattle.expected_values.proofs.figure_of.Lts as lts
 use Rattle.order.proofs.number_of.Reads as number-of-reads
-use Rattle.remedies.proofs.figure.Reads as figure-reads
+use Rattle.expected_values.proofs.figure.Reads as figure-reads
 
 number-of-requires : tie.Need-number-of-requires
 number-of-requires c κs = search needs

@@ -1,10 +1,10 @@
-use Rattle.remedies.specs.Right.{figureIn}
+use Rattle.expected_values.specs.Expected.{figureIn}
 use borrow.Author.Tests.{ne-eqb}
 use borrow.Author.Needs.{needs}
-use Rattle.remedies.proofs.figure.Statement.{statement}
-use Rattle.remedies.proofs.figure.Tie as tie
-use Rattle.remedies.proofs.figure.Reads as reads
-use Rattle.remedies.proofs.figure.Lts as lts
+use Rattle.expected_values.proofs.figure.Statement.{statement}
+use Rattle.expected_values.proofs.figure.Tie as tie
+use Rattle.expected_values.proofs.figure.Reads as reads
+use Rattle.expected_values.proofs.figure.Lts as lts
 use Rattle.dates.proofs.ddmmyy_of.Reads as ddmmyy-of-reads
 
 cast-t10 : tie.Need-cast-t10

@@ -1,13 +1,13 @@
-use Rattle.remedies.specs.Right.{repeatedFor}
+use Rattle.expected_values.specs.Expected.{repeatedFor}
 use borrow.Author.Tests.{eq-eqb, ne-eqb}
 use borrow.Author.Needs.{needs}
-use Rattle.remedies.proofs.repeated.Statement.{statement}
-use Rattle.remedies.proofs.repeated.Tie as tie
-use Rattle.remedies.proofs.repeated.Reads as reads
-use Rattle.remedies.proofs.repeated.Lts as lts
+use Rattle.expected_values.proofs.repeated.Statement.{statement}
+use Rattle.expected_values.proofs.repeated.Tie as tie
+use Rattle.expected_values.proofs.repeated.Reads as reads
+use Rattle.expected_values.proofs.repeated.Lts as lts
 use Rattle.order.proofs.number_of.Reads as number-of-reads
-use Rattle.remedies.proofs.code_for.Reads as code-for-reads
-use Rattle.remedies.proofs.next_number.Reads as next-number-reads
+use Rattle.expected_values.proofs.code_for.Reads as code-for-reads
+use Rattle.expected_values.proofs.next_number.Reads as next-number-reads
 
 code-for-requires : tie.Need-code-for-requires
 code-for-requires c κs = search needs
