@@ -28,7 +28,7 @@ use Rattle.running.specs.Figured.{blocks}
 use Rattle.running.specs.Kept.{Left, Roomy}
 use Rattle.summing.specs.Sums.{Holding}
 use Rattle.summing.proofs.Held.{held}
-use Rattle.parting.specs.Halves.{Shares, Divisible, firstHalf, secondHalf, divided}
+use Rattle.dividing.specs.Halves.{Shares, Divisible, firstHalf, secondHalf, divided}
 use Rattle.parting.proofs.Shared.{shares}
 
 -- ---- the assignments of an accepted file

@@ -36,7 +36,7 @@ use Rattle.running.proofs.Figures.{blocks-on, blocks-open}
 use Rattle.summing.specs.Sums.{summed, Summable, Holding}
 use Rattle.summing.proofs.Held.{held-next, held-front, held-back, summed-is, summable}
 use Rattle.summing.proofs.Assignments.{Listed, AllListed, listed-join, all-listed, gains-bounded, figures-of, figures-cut}
-use Rattle.parting.specs.Halves.{Shares}
+use Rattle.dividing.specs.Halves.{Shares}
 
 -- the boundary lies within the body
 pub through-within : (k : ℕ) (rs : List (List ℕ)) → through k rs ≤ length rs

@@ -1,76 +1,11 @@
 // Parting a file, of any bytes, on any process day, into any two outputs: judge first, then write.
 
 ghost use mathlib.Core.Path.{_≡_};
-ghost use mathlib.Core.List.{List};
-ghost use Prim.Native.Nat.{ℕ};
 ghost use lib.ListN.{length};
-ghost use Rattle.figures.specs.Totals.{_⊕_, oneRecord};
-ghost use Rattle.growth.specs.Bounds.{Bounded};
-ghost use Rattle.operations.specs.Parting.{notParted, partOf, lentParted, partedFirst, partedSecond};
-ghost use Rattle.parting.specs.Halves.{Divisible, firstHalf, secondHalf, divided};
+ghost use Rattle.operations.specs.Parting.{partOf, partedFirst, partedSecond};
 use dates::ProcessDay;
-use figures::totals::Totals;
 use operations::Parting;
-use rules::Refusal;
 use rules::Verdict;
-
-// A refusal of the whole: no record, no field.
-fn refuse(number: u8) -> Parting
-    ensures { λ x. ⌜ x ≡ notParted number ⌝ }
-{
-    Parting::NotParted(Refusal {
-        number,
-        operand: 0,
-        record: 0,
-        field: 0,
-    })
-}
-
-// Figures with a record 10 before them.
-fn with_head(t: Totals) -> Totals
-    requires { ⌜ Bounded 200000 t ⌝ }
-    ensures { λ x. ⌜ x ≡ oneRecord ⊕ t ⌝ }
-{
-    Totals::none().with_record().plus(t)
-}
-
-// And with an 89 behind them.
-fn with_ends(t: Totals) -> Totals
-    requires { ⌜ Bounded 200000 t ⌝ }
-    ensures { λ x. ⌜ x ≡ (oneRecord ⊕ t) ⊕ oneRecord ⌝ }
-{
-    with_head(t).with_record()
-}
-
-// Parts the assignments behind the k-th of all, by the figures that the run left: 19 if either output is too short, and then neither is written.
-// The last assignment's figures count the file's 89 too, which the second part's 89 takes the place of.
-fn divide(
-    head: &[u8],
-    body: &[u8],
-    kept: &[u64],
-    k: usize,
-    all: usize,
-    first: &mut [u8],
-    second: &mut [u8],
-) -> Parting
-    requires { ⌜ Divisible (now head) (now body) (now kept) k all ⌝ }
-    ensures { λ x. ⌜ (x ≡ divided (now (head .entry)) (now (body .entry)) k (length (now (first .entry))) (length (now (second .entry)))) × (now (first .exit) ≡ lentParted x (firstHalf (now (head .entry)) (now (body .entry)) k) (now (first .entry))) × (now (second .exit) ≡ lentParted x (secondHalf (now (head .entry)) (now (body .entry)) k) (now (second .entry))) ⌝ }
-{
-    let front = summing::sum_of(kept, 1, k + 1);
-    let records = front.records;
-    let at = 81 * records.0 as usize;
-    let len = body.len();
-    if first.len() < at + 162 {
-        return refuse(19);
-    }
-    if second.len() < len - at + 162 {
-        return refuse(19);
-    }
-    let back = summing::sum_of(kept, k + 1, all + 1);
-    writing::put_file(first, head, &body[..at], with_ends(front));
-    writing::put_file(second, head, &body[at..len], with_head(back));
-    Parting::Parted
-}
 
 // Parted behind the k-th assignment, or refused with no byte changed.
 pub fn part(day: ProcessDay, file: &[u8], k: u64, first: &mut [u8], second: &mut [u8]) -> Parting
@@ -83,14 +18,14 @@ pub fn part(day: ProcessDay, file: &[u8], k: u64, first: &mut [u8], second: &mut
         Verdict::Accepted(t) => {
             let assignments = t.assignments;
             if k == 0 {
-                return refuse(21);
+                return dividing::refuse(21);
             }
             if assignments.0 as u64 <= k {
-                return refuse(21);
+                return dividing::refuse(21);
             }
             let all = assignments.0 as usize;
             let end = file.len() - 81;
-            divide(
+            dividing::divide(
                 &file[0..81],
                 &file[81..end],
                 &kept,

@@ -11,8 +11,8 @@ use Rattle.parting.proofs.part.Tie as tie
 use Rattle.parting.proofs.part.Reads as reads
 use Rattle.parting.proofs.part.Lts as lts
 use Rattle.checking.proofs.check_into.Reads as check-into-reads
-use Rattle.parting.proofs.divide.Reads as divide-reads
-use Rattle.parting.proofs.refuse.Reads as refuse-reads
+use Rattle.dividing.proofs.divide.Reads as divide-reads
+use Rattle.dividing.proofs.refuse.Reads as refuse-reads
 
 slice-aggregate-check-into : tie.Need-slice-aggregate-check-into
 slice-aggregate-check-into c = search needs

@@ -28,7 +28,7 @@ use Rattle.rules.specs.Run.{chunks, recordsOf}
 use Rattle.summing.specs.Sums.{summed}
 use Rattle.writing.proofs.Wrote.{tail-part, end-length}
 use Rattle.drafts.proofs.Walk.{laid}
-use Rattle.parting.specs.Halves.{Divisible, firstHalf, secondHalf, divided}
+use Rattle.dividing.specs.Halves.{Divisible, firstHalf, secondHalf, divided}
 
 -- ---- figures with both ends
 module _ (t : Totals) (b : Bounded 200000 t) where

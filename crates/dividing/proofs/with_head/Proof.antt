@@ -3,12 +3,12 @@
 use mathlib.Core.Path.{ap, _∙_}
 use Rattle.figures.specs.Totals.{_⊕_}
 use Rattle.figures.specs.declared.totals.Totals.{Totals}
-use Rattle.parting.proofs.Halves.{room-ten, one-ten, room-body}
+use Rattle.dividing.proofs.Halves.{room-ten, one-ten, room-body}
 use borrow.Author.Needs.{needs}
-use Rattle.parting.proofs.with_head.Statement.{statement}
-use Rattle.parting.proofs.with_head.Tie as tie
-use Rattle.parting.proofs.with_head.Reads as reads
-use Rattle.parting.proofs.with_head.Lts as lts
+use Rattle.dividing.proofs.with_head.Statement.{statement}
+use Rattle.dividing.proofs.with_head.Tie as tie
+use Rattle.dividing.proofs.with_head.Reads as reads
+use Rattle.dividing.proofs.with_head.Lts as lts
 use Rattle.figures.proofs.totals.Totals.none.Reads as none-reads
 use Rattle.figures.proofs.totals.Totals.plus.Reads as plus-reads
 use Rattle.figures.proofs.totals.Totals.with_record.Reads as with-record-reads

@@ -3,14 +3,14 @@
 use mathlib.Core.Path.{ap, _∙_}
 use Rattle.figures.specs.Totals.{_⊕_, oneRecord}
 use Rattle.figures.specs.declared.totals.Totals.{Totals}
-use Rattle.parting.proofs.Halves.{room-end}
+use Rattle.dividing.proofs.Halves.{room-end}
 use borrow.Author.Needs.{needs}
-use Rattle.parting.proofs.with_ends.Statement.{statement}
-use Rattle.parting.proofs.with_ends.Tie as tie
-use Rattle.parting.proofs.with_ends.Reads as reads
-use Rattle.parting.proofs.with_ends.Lts as lts
+use Rattle.dividing.proofs.with_ends.Statement.{statement}
+use Rattle.dividing.proofs.with_ends.Tie as tie
+use Rattle.dividing.proofs.with_ends.Reads as reads
+use Rattle.dividing.proofs.with_ends.Lts as lts
 use Rattle.figures.proofs.totals.Totals.with_record.Reads as with-record-reads
-use Rattle.parting.proofs.with_head.Reads as with-head-reads
+use Rattle.dividing.proofs.with_head.Reads as with-head-reads
 
 with-head-requires : tie.Need-with-head-requires
 with-head-requires c κs = search needs

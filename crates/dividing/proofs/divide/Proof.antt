@@ -3,15 +3,15 @@
 use mathlib.Core.Path.{sym, subst}
 use native.Mathlib.Omega.{arith}
 use Rattle.growth.specs.Bounds.{Bounded}
-use Rattle.parting.proofs.Halves.{cut-here, front-long, first-short, second-short, first-room, second-room, parts}
+use Rattle.dividing.proofs.Halves.{cut-here, front-long, first-short, second-short, first-room, second-room, parts}
 use borrow.Author.Needs.{needs}
-use Rattle.parting.proofs.divide.Statement.{statement}
-use Rattle.parting.proofs.divide.Tie as tie
-use Rattle.parting.proofs.divide.Reads as reads
-use Rattle.parting.proofs.divide.Lts as lts
-use Rattle.parting.proofs.refuse.Reads as refuse-reads
-use Rattle.parting.proofs.with_ends.Reads as with-ends-reads
-use Rattle.parting.proofs.with_head.Reads as with-head-reads
+use Rattle.dividing.proofs.divide.Statement.{statement}
+use Rattle.dividing.proofs.divide.Tie as tie
+use Rattle.dividing.proofs.divide.Reads as reads
+use Rattle.dividing.proofs.divide.Lts as lts
+use Rattle.dividing.proofs.refuse.Reads as refuse-reads
+use Rattle.dividing.proofs.with_ends.Reads as with-ends-reads
+use Rattle.dividing.proofs.with_head.Reads as with-head-reads
 use Rattle.summing.proofs.sum_of.Reads as sum-of-reads
 use Rattle.writing.proofs.put_file.Reads as put-file-reads
 
