@@ -1,4 +1,3 @@
-// What the tool's command line asks, and how the tool is used.
+// What the tool's command line asks.
 
 pub mod asked;
-pub mod help;

@@ -1,5 +1,6 @@
 // What people read behind a refusal: the number in words, where it stands, and the record with its field underlined.
 
+pub mod answers;
 mod right;
 
 use positions::Place;

@@ -2,7 +2,7 @@
 
 use asking::asked;
 use asking::asked::Command;
-use asking::help;
+use explaining::answers;
 use figures::totals::Totals;
 use outputs::Output;
 use outputs::Parts;
@@ -10,20 +10,10 @@ use rules::Mode;
 use rules::Refusal;
 use rules::Verdict;
 
-fn tell_accepted(t: Totals) {
-    telling::print_check(Verdict::Accepted(t));
-}
-
-// The machine's line of a refusal, and what it means.
-fn tell_refused(x: Refusal, mode: Mode, file: &[u8]) {
-    telling::print_check(Verdict::Refused(x));
-    explaining::explain(x, mode, file);
-}
-
 fn check(file: &[u8]) {
     match checking::check(asked::day(), file) {
-        Verdict::Accepted(t) => tell_accepted(t),
-        Verdict::Refused(x) => tell_refused(x, Mode::File, file),
+        Verdict::Accepted(t) => answers::tell_accepted(t),
+        Verdict::Refused(x) => answers::tell_refused(x, Mode::File, file),
     }
 }
 
@@ -32,40 +22,20 @@ fn keep(argument: usize, bytes: &[u8], t: Totals) {
     let mut name = io::buffer();
     let n = os::arg(argument, &mut name);
     if filing::save(&name[..n], bytes) {
-        tell_accepted(t);
+        answers::tell_accepted(t);
     }
 }
 
 fn close(draft: &[u8], out: &mut [u8]) {
     match outputs::close(asked::day(), draft, out) {
-        Output::Refused(x) => tell_refused(x, Mode::Draft, draft),
+        Output::Refused(x) => answers::tell_refused(x, Mode::Draft, draft),
         Output::File(size, t) => keep(4, &out[..size], t),
-    }
-}
-
-// The machine's line of a refused joining, which also says which file, and what it means.
-fn tell_not_joined(x: Refusal, file: &[u8]) {
-    telling::print_answer(Verdict::Refused(x));
-    telling::print_number(x.operand as u64);
-    telling::end_line();
-    explaining::explain(x, Mode::File, file);
-}
-
-// A refusal speaks of the first file, of the second, or of both.
-fn tell_which(x: Refusal, first: &[u8], second: &[u8]) {
-    if x.operand == 1 {
-        tell_not_joined(x, first);
-        return;
-    }
-    tell_not_joined(x, second);
-    if x.number == 20 {
-        explaining::say_sender(first);
     }
 }
 
 fn join(first: &[u8], second: &[u8], out: &mut [u8]) {
     match outputs::join(asked::day(), first, second, out) {
-        Output::Refused(x) => tell_which(x, first, second),
+        Output::Refused(x) => answers::tell_which(x, first, second),
         Output::File(size, t) => keep(5, &out[..size], t),
     }
 }
@@ -110,7 +80,7 @@ fn tell_boundaries(file: &[u8]) {
 }
 
 fn tell_not_parted(x: Refusal, file: &[u8]) {
-    tell_refused(x, Mode::File, file);
+    answers::tell_refused(x, Mode::File, file);
     if x.number == 21 {
         tell_boundaries(file);
     }
@@ -130,8 +100,8 @@ fn serve(file: &[u8], second: &mut [u8], third: &mut [u8]) {
         Command::Close => close(file, second),
         Command::Join => with_second(file, second, third),
         Command::Part => part(file, second, third),
-        Command::Help => help::help(),
-        Command::Unknown => help::usage(Command::Unknown),
+        Command::Help => helping::help(),
+        Command::Unknown => helping::usage(Command::Unknown),
     }
 }
 
@@ -173,11 +143,11 @@ fn hold(again: u64) {
 fn main() {
     let command = asked::order_given();
     if let Command::Help = command {
-        help::help();
+        helping::help();
         return;
     }
     if os::arg_count() != asked::words_of(command) {
-        help::usage(command);
+        helping::usage(command);
         return;
     }
     // asked for a second time, so that the compiler cannot see that this is 0

@@ -7,7 +7,7 @@ use Rattle.pay.proofs.close.Lts as lts
 use Rattle.outputs.proofs.close.Reads as close-reads
 use Rattle.asking.proofs.asked.day.Reads as day-reads
 use Rattle.pay.proofs.keep.Reads as keep-reads
-use Rattle.pay.proofs.tell_refused.Reads as tell-refused-reads
+use Rattle.explaining.proofs.answers.tell_refused.Reads as tell-refused-reads
 
 day-requires : tie.Need-day-requires
 day-requires c κs = search needs

@@ -7,7 +7,7 @@ use Rattle.pay.proofs.join.Lts as lts
 use Rattle.outputs.proofs.join.Reads as join-reads
 use Rattle.asking.proofs.asked.day.Reads as day-reads
 use Rattle.pay.proofs.keep.Reads as keep-reads
-use Rattle.pay.proofs.tell_which.Reads as tell-which-reads
+use Rattle.explaining.proofs.answers.tell_which.Reads as tell-which-reads
 
 day-requires : tie.Need-day-requires
 day-requires c κs = search needs

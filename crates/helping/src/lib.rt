@@ -1,6 +1,6 @@
 // How the tool is used.
 
-use super::asked::Command;
+use asking::asked::Command;
 use wording::say;
 
 // How one command is used.
