@@ -6,15 +6,13 @@ use mathlib.Core.Logic.{_⊎_, inl, inr, ⊎-elim}
 use mathlib.Core.List.{List, [], _∷_, _++_, append-assoc, append-nil}
 use mathlib.Core.Bool.{Bool, true, false, false≢true}
 use native.Mathlib.Omega.{arith}
-use native.Mathlib.Numerals.{add-one}
-use lib.ListN.{length, take, drop, set}
-use lib.Seq.{take-suc-set}
+use lib.ListN.{length, take, drop}
 use Rattle.dates.specs.declared.Window.{Window}
 use Rattle.fields.specs.Bytes.{every, isDigit, part}
 use Rattle.growth.specs.Bounds.{Bounded, Small}
 use Rattle.layout.specs.Rows.{firstFault}
 use Rattle.layout.specs.declared.Finding.the-variants.{Sound}
-use Rattle.rules.specs.Codes.{kindOf, keyIn}
+use Rattle.rules.specs.Codes.{kindOf}
 use Rattle.rules.specs.Layouts.{rows}
 use Rattle.rules.specs.Order.{mayFollow, mayEnd}
 use Rattle.rules.specs.Growth.{gainFor, gain, keysFor, keys, allKeys, after, afterFor, start}
@@ -29,7 +27,8 @@ use Rattle.rules.specs.declared.Verdict.the-variants.{Accepted}
 use Rattle.choice.specs.Choice.{if_then_else_}
 use Rattle.figures.specs.declared.totals.Totals.{Totals}
 use Rattle.running.specs.Figured.{slots, allSlots, blocks}
-use Rattle.running.specs.Kept.{Keyed, Kept, Noted, Roomy}
+use Rattle.running.specs.Kept.{Roomy}
+use Rattle.keeping.specs.Kept.{Keyed, Kept, Noted}
 use Rattle.steps.proofs.Steps.{went-on, run-next, run-stop, table-holds, table-of, may-stand, never-other, Opens, opens}
 use Rattle.steps.proofs.Bounds.{small-next}
 use Rattle.running.proofs.Figures.{figures-next, figures-last}
@@ -47,10 +46,6 @@ one-or-none R50 r = inl refl
 one-or-none R88 r = inl refl
 one-or-none R89 r = inl refl
 one-or-none Other r = inl refl
-
--- a key put behind the others
-pub put-key : (l : List ℕ) (n v : ℕ) (r : List ℕ) → n < length l → v ≡ keyIn r → take (n + 1) (set l n v) ≡ take n l ++ (keyIn r ∷ [])
-put-key l n v r h e = rw (add-one, take-suc-set l n v h, e)
 
 -- the keys of a record and those behind it
 keys-next : (r : List ℕ) (rs : List (List ℕ)) → allKeys (r ∷ rs) ≡ keys r ++ allKeys rs

@@ -1,19 +1,15 @@
-// The records of a file or a draft in turn: the run over all of them. One record's step is passed on from `steps`.
+// The records of a file or a draft in turn: the run over all of them. One record's step is passed on from `steps`; what is kept beside the state is put there by `keeping`.
 
 ghost use mathlib.Core.Path.{_≡_};
-ghost use mathlib.Core.List.{List, _++_};
-ghost use Prim.Native.Nat.{ℕ, _+_, _*_, _/_, _≤_};
-ghost use lib.ListN.{length, take};
+ghost use Prim.Native.Nat.{_+_, _/_, _≤_};
+ghost use lib.ListN.{length};
 ghost use Rattle.rules.specs.Growth.{start};
-ghost use Rattle.rules.specs.Codes.{kindOf};
 ghost use Rattle.rules.specs.Run.{refused, ended, atEnd};
-ghost use Rattle.running.specs.Figured.{slots};
-ghost use Rattle.running.specs.Kept.{Keyed, Kept, Noted, Ran};
+ghost use Rattle.running.specs.Kept.{Ran};
 use dates::Date;
 use dates::Window;
 use figures::amounts::Amount;
 use figures::counts::Count;
-use figures::totals::AssignmentTotals;
 use figures::totals::Totals;
 use rules::Assignment;
 use rules::Kind;
@@ -23,51 +19,6 @@ use rules::State;
 use rules::Step;
 use rules::Verdict;
 pub use steps::take_record;
-
-// Puts an assignment's figures behind those of so many others; nothing where there is no room.
-fn keep_figures(t: AssignmentTotals, figures: &mut [u64], used: usize)
-    requires { ⌜ used ≤ 500 ⌝ }
-    ensures { λ _. ⌜ (5 * used + 5 ≤ length (now (figures .entry)) → take (5 * used + 5) (now (figures .exit)) ≡ take (5 * used) (now (figures .entry)) ++ slots t) ⌝ }
-{
-    let at = 5 * used;
-    if figures.len() < at + 5 {
-        return;
-    }
-    let totals = t.totals;
-    let transactions = totals.transactions;
-    let records = totals.records;
-    let sum = totals.sum;
-    let first = totals.first;
-    let last = t.last;
-    figures[at] = transactions.0 as u64;
-    figures[at + 1] = records.0 as u64;
-    figures[at + 2] = sum.0;
-    figures[at + 3] = first.0 as u64;
-    figures[at + 4] = last.0 as u64;
-}
-
-// Behind a record 20: keeps the figures that stood before it, of the assignment that it ends.
-fn keep_ended(kind: Kind, t: AssignmentTotals, figures: &mut [u64], used: usize)
-    requires { ⌜ used ≤ 500 ⌝ }
-    ensures { λ _. ⌜ ((r : List ℕ) → kind ≡ kindOf r → Noted r t used (now (figures .entry)) (now (figures .exit))) ⌝ }
-{
-    if order::number_of(kind) != 20 {
-        return;
-    }
-    keep_figures(t, figures, used);
-}
-
-// Keeps the key of a sound record 20 behind the others, and answers how many are kept.
-pub fn keep_key(kind: Kind, r: &[u8], keys: &mut [u64], used: usize) -> usize
-    requires { ⌜ Keyed (now r) used × (length (now keys) ≡ 500) × (kind ≡ kindOf (now r)) ⌝ }
-    ensures { λ x. ⌜ Kept (now (r .entry)) (now (keys .entry)) used (now (keys .exit)) x ⌝ }
-{
-    if order::number_of(kind) == 20 {
-        keys[used] = starts::key_of(r);
-        return used + 1;
-    }
-    used
-}
 
 fn refusal(number: u8, before: usize, field: u8) -> Verdict
     requires { ⌜ before ≤ 200000 ⌝ }
@@ -154,8 +105,8 @@ pub fn run_over(
             Step::Next(next) => {
                 let a = next.assignment;
                 let kind = a.last;
-                keep_ended(kind, totals, figures, used);
-                used = keep_key(kind, r, kept, used);
+                keeping::keep_ended(kind, totals, figures, used);
+                used = keeping::keep_key(kind, r, kept, used);
                 st = next;
             }
         }
@@ -163,6 +114,6 @@ pub fn run_over(
     }
     let a = st.assignment;
     let totals = a.totals;
-    keep_figures(totals, figures, used);
+    keeping::keep_figures(totals, figures, used);
     finish(mode, st, k)
 }

@@ -12,11 +12,11 @@ use Rattle.running.proofs.run_over.Reads as reads
 use Rattle.running.proofs.run_over.Lts as lts
 use Rattle.running.proofs.begin.Reads as begin-reads
 use Rattle.running.proofs.finish.Reads as finish-reads
-use Rattle.running.proofs.keep_figures.Reads as keep-figures-reads
-use Rattle.running.proofs.keep_key.Reads as keep-key-reads
+use Rattle.keeping.proofs.keep_figures.Reads as keep-figures-reads
+use Rattle.keeping.proofs.keep_key.Reads as keep-key-reads
 use Rattle.running.proofs.refusal.Reads as refusal-reads
 use Rattle.steps.proofs.take_record.Reads as take-record-reads
-use Rattle.running.proofs.keep_ended.Reads as keep-ended-reads
+use Rattle.keeping.proofs.keep_ended.Reads as keep-ended-reads
 
 abbrev Inv-loop : tie.InvT-loop
 Inv-loop mode w bytes kept₀ figures₀ count st₀ used₀ k₀ kept figures st used k = At mode w bytes count st kept figures used k × (length figures ≡ length figures₀)

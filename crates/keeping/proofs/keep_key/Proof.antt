@@ -7,14 +7,13 @@ use Rattle.rules.specs.Codes.{numberOfKind, kindOf}
 use Rattle.rules.specs.Growth.{gainFor, keysFor}
 use Rattle.rules.specs.declared.Kind.{Kind}
 use Rattle.rules.specs.declared.Kind.the-variants.{R20}
-use Rattle.running.proofs.Keys.{is-twenty, no-key}
-use Rattle.running.specs.Kept.{Kept}
-use Rattle.running.proofs.Loop.{put-key}
+use Rattle.keeping.proofs.Keys.{is-twenty, no-key, put-key}
+use Rattle.keeping.specs.Kept.{Kept}
 use borrow.Author.Needs.{needs}
-use Rattle.running.proofs.keep_key.Statement.{statement}
-use Rattle.running.proofs.keep_key.Tie as tie
-use Rattle.running.proofs.keep_key.Reads as reads
-use Rattle.running.proofs.keep_key.Lts as lts
+use Rattle.keeping.proofs.keep_key.Statement.{statement}
+use Rattle.keeping.proofs.keep_key.Tie as tie
+use Rattle.keeping.proofs.keep_key.Reads as reads
+use Rattle.keeping.proofs.keep_key.Lts as lts
 use Rattle.order.proofs.number_of.Reads as number-of-reads
 use Rattle.starts.proofs.key_of.Reads as key-of-reads
 

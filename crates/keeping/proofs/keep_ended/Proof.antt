@@ -1,14 +1,14 @@
 use mathlib.Core.Path.{_≡_, refl, ap, sym, _∙_}
 use Rattle.rules.specs.Codes.{numberOfKind}
-use Rattle.running.proofs.Keys.{is-twenty}
-use Rattle.running.proofs.Figures.{noted-ended, noted-on}
+use Rattle.keeping.proofs.Keys.{is-twenty}
+use Rattle.keeping.proofs.Figures.{noted-ended, noted-on}
 use borrow.Author.Needs.{needs}
-use Rattle.running.proofs.keep_ended.Statement.{statement}
-use Rattle.running.proofs.keep_ended.Tie as tie
-use Rattle.running.proofs.keep_ended.Reads as reads
-use Rattle.running.proofs.keep_ended.Lts as lts
+use Rattle.keeping.proofs.keep_ended.Statement.{statement}
+use Rattle.keeping.proofs.keep_ended.Tie as tie
+use Rattle.keeping.proofs.keep_ended.Reads as reads
+use Rattle.keeping.proofs.keep_ended.Lts as lts
 use Rattle.order.proofs.number_of.Reads as number-of-reads
-use Rattle.running.proofs.keep_figures.Reads as keep-figures-reads
+use Rattle.keeping.proofs.keep_figures.Reads as keep-figures-reads
 
 number-of-requires : tie.Need-number-of-requires
 number-of-requires c κs = search needs

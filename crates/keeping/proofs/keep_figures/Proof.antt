@@ -1,11 +1,11 @@
 use lib.ListN.{length-set}
 use native.Mathlib.Omega.{arith}
-use Rattle.running.proofs.Figures.{put-slots}
+use Rattle.keeping.proofs.Figures.{put-slots}
 use borrow.Author.Needs.{needs}
-use Rattle.running.proofs.keep_figures.Statement.{statement}
-use Rattle.running.proofs.keep_figures.Tie as tie
-use Rattle.running.proofs.keep_figures.Reads as reads
-use Rattle.running.proofs.keep_figures.Lts as lts
+use Rattle.keeping.proofs.keep_figures.Statement.{statement}
+use Rattle.keeping.proofs.keep_figures.Tie as tie
+use Rattle.keeping.proofs.keep_figures.Reads as reads
+use Rattle.keeping.proofs.keep_figures.Lts as lts
 
 mul-at : tie.Need-mul-at
 mul-at c = search needs
