@@ -5,7 +5,7 @@ use libc::STDIN_FILENO;
 use libc::STDOUT_FILENO;
 
 fn no_day() {
-    telling::print_check(checking::refuse(1));
+    program_lines::print_check(check_file::refuse(1));
 }
 
 // All that came: the line of seven bytes, and behind it at most 64,800.
@@ -18,7 +18,7 @@ fn answer(all: &[u8]) {
         no_day();
         return;
     }
-    let Digits::Number(ddmmyy) = fields::places::number_at(all, 1, 6) else {
+    let Digits::Number(ddmmyy) = fields::number_at(all, 1, 6) else {
         no_day();
         return;
     };
@@ -26,7 +26,7 @@ fn answer(all: &[u8]) {
         io::write_all(STDOUT_FILENO, b"too long\n");
         return;
     }
-    telling::print_check(checking::check(telling::process_day(ddmmyy), &all[7..]));
+    program_lines::print_check(check_file::check(program_lines::process_day(ddmmyy), &all[7..]));
 }
 
 fn main() {

@@ -7,8 +7,8 @@ use Rattle.dates.specs.Dates.{date, dayOf}
 use Rattle.dates.specs.declared.Date.{Date}
 use Rattle.dates.specs.declared.Day.{Day}
 use Rattle.dates.specs.declared.Day.the-variants.{On, NoDate}
-use Rattle.dates.specs.declared.Service.{Service}
-use Rattle.dates.specs.declared.Service.the-variants.{Autogiro, Remittance}
+use Rattle.services.specs.declared.Service.{Service}
+use Rattle.services.specs.declared.Service.the-variants.{Autogiro, Remittance}
 use Rattle.dates.specs.declared.ProcessDay.{ProcessDay}
 use Rattle.dates.specs.declared.Window.{Window}
 use Rattle.dates.specs.declared.Opening.{Opening}

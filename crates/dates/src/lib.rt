@@ -5,6 +5,7 @@ ghost use mathlib.Core.Bool.{_||_};
 ghost use lib.Dec.{eqb};
 ghost use Rattle.dates.specs.Dates.{daysIn, isDate, dayOf, readDay, ddmmyy, earlier, later};
 ghost use Rattle.dates.specs.Windows.{windowOf, earliest, inTime};
+use services::Service;
 
 // A date's number: year times 10000, month times 100, day. 0 stands for no date yet.
 pub struct Date(pub u32);
@@ -12,12 +13,6 @@ pub struct Date(pub u32);
 pub enum Day {
     On(Date),
     NoDate,
-}
-
-// Service 01 draws charges, service 04 pays out.
-pub enum Service {
-    Autogiro,
-    Remittance,
 }
 
 // The day that the caller processes on, in full: 2025, 10, 1. It may be no date at all.

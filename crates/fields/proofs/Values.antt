@@ -1,3 +1,3 @@
 -- The number that digits write. Passed on from `numbers`.
 -- Assumes nothing.
-pub use Rattle.numbers.proofs.Values.{number-yes, number-no, number-is, number-not, written-length}
+pub use Rattle.field_digits.proofs.Values.{number-yes, number-no, number-is, number-not, written-length}

@@ -1,3 +1,3 @@
 -- The answer of an account number. Passed on from `account_numbers`.
 -- Assumes nothing.
-pub use Rattle.account_numbers.proofs.Weights.{digits-judged, no-digits}
+pub use Rattle.field_accounts.proofs.Weights.{digits-judged, no-digits}

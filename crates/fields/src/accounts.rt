@@ -1,3 +1,3 @@
 // Account numbers.
 
-pub use account_numbers::Account;
+pub use field_accounts::Account;

@@ -1,3 +1,3 @@
 // Classes of bytes.
 
-pub use characters::classes::Class;
+pub use field_bytes::classes::Class;

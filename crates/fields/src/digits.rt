@@ -1,4 +1,4 @@
 // A field of digits as the number that it writes.
 
-pub use numbers::Digits;
-pub use numbers::number;
+pub use field_digits::Digits;
+pub use field_digits::number;

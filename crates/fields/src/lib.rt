@@ -1,9 +1,117 @@
-// The fields of a record by their positions, and numbers into fields. What a field's bytes may be is in the crates below;
+// The fields of a record by their positions, counted from 1 as document 01 counts them, and numbers into fields. What a field's bytes may be is in the crates below;
 // their types and operations that other crates name are passed on here.
 
 pub mod accounts;
 pub mod classes;
 pub mod digits;
-pub mod places;
 pub mod texts;
 pub mod writing;
+
+ghost use mathlib.Core.Path.{_≡_};
+ghost use Prim.Native.Nat.{_+_, _≤_};
+ghost use lib.ListN.{length};
+ghost use Rattle.field_bytes.specs.Bytes.{every, isZero, same, part, Inside};
+ghost use Rattle.field_bytes.specs.Classes.{inClass};
+ghost use Rattle.field_digits.specs.Numbers.{numberOf, paired, codeOf};
+ghost use Rattle.field_accounts.specs.Accounts.{accountOf, isRight};
+ghost use Rattle.field_references.specs.Kids.{atRight, isKid, isReference};
+ghost use Rattle.field_words.specs.Words.{bytesOf};
+use field_accounts::Account;
+use field_bytes::classes::Class;
+use field_bytes::classes::in_class;
+use field_digits::Digits;
+
+pub fn number_at(r: &[u8], from: usize, to: usize) -> Digits
+    requires { ⌜ Inside from to (now r) × (to ≤ from + 16) ⌝ }
+    ensures { λ d. ⌜ d ≡ numberOf (part from to (now (r .entry))) ⌝ }
+{
+    field_digits::number(&r[from - 1..to])
+}
+
+// Six digits two by two.
+pub fn pairs_at(r: &[u8], from: usize) -> Digits
+    requires { ⌜ Inside from (from + 5) (now r) ⌝ }
+    ensures { λ d. ⌜ d ≡ paired (numberOf (part from (from + 5) (now (r .entry)))) ⌝ }
+{
+    field_digits::pairs(&r[from - 1..from + 5])
+}
+
+// A code of two digits as a number, or 100.
+pub fn code_at(r: &[u8], from: usize) -> u8
+    requires { ⌜ Inside from (from + 1) (now r) ⌝ }
+    ensures { λ n. ⌜ n ≡ codeOf (part from (from + 1) (now (r .entry))) ⌝ }
+{
+    let tens = r[from - 1];
+    let ones = r[from];
+    if !(in_class(Class::Digit, tens) & in_class(Class::Digit, ones)) {
+        return 100;
+    }
+    (tens - 48) * 10 + (ones - 48)
+}
+
+pub fn all_at(class: Class, r: &[u8], from: usize, to: usize) -> bool
+    requires { ⌜ Inside from to (now r) ⌝ }
+    ensures { λ b. ⌜ b ≡ every (inClass class) (part from to (now (r .entry))) ⌝ }
+{
+    field_bytes::classes::all_in(class, &r[from - 1..to])
+}
+
+// Zeros up to the end of a record: its last byte is the line feed.
+pub fn zeros_from(r: &[u8], from: usize) -> bool
+    requires { ⌜ (length (now r) ≡ 81) × (1 ≤ from) × (from ≤ 80) ⌝ }
+    ensures { λ b. ⌜ b ≡ every isZero (part from 80 (now (r .entry))) ⌝ }
+{
+    field_bytes::classes::all_in(Class::Zero, &r[from - 1..r.len() - 1])
+}
+
+pub fn same_at(r: &[u8], from: usize, to: usize, t: &[u8]) -> bool
+    requires { ⌜ Inside from to (now r) × (to + 1 ≡ from + length (now t)) ⌝ }
+    ensures { λ b. ⌜ b ≡ same (part from to (now (r .entry))) (now (t .entry)) ⌝ }
+{
+    field_bytes::texts::same_bytes(&r[from - 1..to], t)
+}
+
+// Four positions as one number, the first byte lowest.
+pub fn four_at(r: &[u8], from: usize) -> u64
+    requires { ⌜ Inside from (from + 3) (now r) ⌝ }
+    ensures { λ x. ⌜ bytesOf 4 x ≡ part from (from + 3) (now (r .entry)) ⌝ }
+{
+    field_words::half(&r[from - 1..from + 3])
+}
+
+pub fn account_at(r: &[u8], from: usize, to: usize) -> Account
+    requires { ⌜ Inside from to (now r) × (to ≡ from + 10) ⌝ }
+    ensures { λ a. ⌜ a ≡ accountOf (part from to (now (r .entry))) ⌝ }
+{
+    field_accounts::account_of(&r[from - 1..to])
+}
+
+// An account of eleven digits whose last one is right.
+pub fn right_account_at(r: &[u8], from: usize) -> bool
+    requires { ⌜ Inside from (from + 10) (now r) ⌝ }
+    ensures { λ b. ⌜ b ≡ isRight (accountOf (part from (from + 10) (now (r .entry)))) ⌝ }
+{
+    field_accounts::is_right(&r[from - 1..from + 10])
+}
+
+// A KID field has 25 places.
+pub fn kid_at(r: &[u8], from: usize) -> bool
+    requires { ⌜ Inside from (from + 24) (now r) ⌝ }
+    ensures { λ b. ⌜ b ≡ isKid (part from (from + 24) (now (r .entry))) ⌝ }
+{
+    field_references::kid(&r[from - 1..from + 24])
+}
+
+pub fn kid_right_at(r: &[u8], from: usize, to: usize) -> bool
+    requires { ⌜ Inside from to (now r) ⌝ }
+    ensures { λ b. ⌜ b ≡ atRight (part from to (now (r .entry))) ⌝ }
+{
+    field_references::kid_right(&r[from - 1..to])
+}
+
+pub fn reference_at(r: &[u8], from: usize, to: usize) -> bool
+    requires { ⌜ Inside from to (now r) × (from + 1 ≤ to) ⌝ }
+    ensures { λ b. ⌜ b ≡ isReference (part from to (now (r .entry))) ⌝ }
+{
+    field_references::reference(&r[from - 1..to])
+}

@@ -1,3 +1,3 @@
 // A field that has to be one fixed text.
 
-pub use characters::texts::same_bytes;
+pub use field_bytes::texts::same_bytes;

@@ -2,7 +2,7 @@
 
 ghost use mathlib.Core.Path.{_≡_};
 ghost use lib.ListN.{length};
-ghost use Rattle.numbers.specs.Numbers.{written};
+ghost use Rattle.field_digits.specs.Numbers.{written};
 
 // As many of the last digits of `n` as `out` has places, right with zeros.
 pub fn put_number(out: &mut [u8], n: u64)

@@ -4,6 +4,7 @@ use Prim.Native.Nat.{ℕ, _+_, _<_, _^_}
 use mathlib.Core.Bool.{Bool}
 use lib.Dec.{leb, ltb, eqb}
 use Rattle.choice.specs.Choice.{if_then_else_}
+use Rattle.limits.specs.Limits.{mostOfService04, mostOfAll}
 use Rattle.figures.specs.declared.amounts.Amount.{Amount}
 use Rattle.figures.specs.declared.counts.Count.{Count}
 use Rattle.figures.specs.declared.counts.TransactionNumber.{TransactionNumber}
@@ -26,10 +27,10 @@ within sum more limit = leb (sum .0 + more .0) (limit .0)
 
 -- the limits of sums, in øre: an assignment of service 04; an assignment of service 01, a file, and each sum of sub-specifications
 abbrev pub limit04 : Amount
-limit04 = amount 9_999_999_999_999
+limit04 = amount mostOfService04
 
 abbrev pub limitWide : Amount
-limitWide = amount 99_999_999_999_999_999
+limitWide = amount mostOfAll
 
 -- the first transaction number is above 0, each next is one more; 0 stands for none before it
 unfoldable pub follows : TransactionNumber → TransactionNumber → Bool

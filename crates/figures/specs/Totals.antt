@@ -1,6 +1,6 @@
 -- Document 01, "What may follow": the running totals. They are added up from what each record brings.
 -- Assumes nothing.
-use Prim.Native.Nat.{ℕ, _+_}
+use Prim.Native.Nat.{ℕ, _+_, _-_}
 use Rattle.dates.specs.Dates.{date, earlier, later}
 use Rattle.dates.specs.declared.Date.{Date}
 use Rattle.figures.specs.Figures.{amount, count, plus, Fits}
@@ -37,9 +37,20 @@ oneAssignment = record { assignments = count 1; transactions = count 0; records 
 abbrev pub oneTransaction : Amount → Date → Totals
 oneTransaction a d = record { assignments = count 0; transactions = count 1; records = count 1; sum = a; first = d }
 
+-- n records more, and n fewer
+abbrev pub withRecords : ℕ → Totals → Totals
+withRecords n t = record { assignments = t .assignments; transactions = t .transactions; records = count (t .records .0 + n); sum = t .sum; first = t .first }
+
+abbrev pub lessRecords : ℕ → Totals → Totals
+lessRecords n t = record { assignments = t .assignments; transactions = t .transactions; records = count (t .records .0 - n); sum = t .sum; first = t .first }
+
 -- an assignment's totals have the last date too
 abbrev pub noneYet : AssignmentTotals
 noneYet = record { totals = none; last = date 0 }
+
+-- one assignment of these figures
+abbrev pub oneOf : Count → Count → Amount → Date → Date → AssignmentTotals
+oneOf ts rs s d l = record { totals = record { assignments = count 1; transactions = ts; records = rs; sum = s; first = d }; last = l }
 
 infixl 60 _⊞_
 abbrev pub _⊞_ : AssignmentTotals → AssignmentTotals → AssignmentTotals

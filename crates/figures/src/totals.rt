@@ -1,7 +1,9 @@
 // The running totals of a file and of an assignment. Each method answers the totals grown by what one record brings.
 
 ghost use mathlib.Core.Path.{_≡_};
-ghost use Rattle.figures.specs.Totals.{none, _⊕_, oneRecord, oneAssignment, oneTransaction, noneYet, _⊞_, undated, dated, Room};
+ghost use Prim.Native.Nat.{_+_, _≤_};
+ghost use Rattle.figures.specs.Figures.{Fits};
+ghost use Rattle.figures.specs.Totals.{none, _⊕_, oneRecord, oneAssignment, oneTransaction, withRecords, lessRecords, noneYet, oneOf, _⊞_, undated, dated, Room};
 use super::amounts::Amount;
 use super::counts::Count;
 use dates::Date;
@@ -90,9 +92,82 @@ impl Totals {
             first: date,
         })
     }
+
+    // So many records more.
+    pub fn with_records(self, n: u32) -> Totals
+        requires { ⌜ Fits 32 (self .records .0 + n) ⌝ }
+        ensures { λ r. ⌜ r ≡ withRecords n self ⌝ }
+    {
+        let assignments = self.assignments;
+        let transactions = self.transactions;
+        let records = self.records;
+        let sum = self.sum;
+        let first = self.first;
+        Totals {
+            assignments,
+            transactions,
+            records: Count(records.0 + n),
+            sum,
+            first,
+        }
+    }
+
+    // So many records fewer.
+    pub fn less_records(self, n: u32) -> Totals
+        requires { ⌜ n ≤ self .records .0 ⌝ }
+        ensures { λ r. ⌜ r ≡ lessRecords n self ⌝ }
+    {
+        let assignments = self.assignments;
+        let transactions = self.transactions;
+        let records = self.records;
+        let sum = self.sum;
+        let first = self.first;
+        Totals {
+            assignments,
+            transactions,
+            records: Count(records.0 - n),
+            sum,
+            first,
+        }
+    }
+
+    // The same, number by number: a copy of the whole would tie what is copied to the layout of what it is copied into.
+    pub fn copied(self) -> Totals
+        ensures { λ r. ⌜ r ≡ self ⌝ }
+    {
+        Totals {
+            assignments: Count(self.assignments.0),
+            transactions: Count(self.transactions.0),
+            records: Count(self.records.0),
+            sum: Amount(self.sum.0),
+            first: Date(self.first.0),
+        }
+    }
 }
 
 impl AssignmentTotals {
+    // One assignment of these figures.
+    pub fn of(
+        transactions: Count,
+        records: Count,
+        sum: Amount,
+        first: Date,
+        last: Date,
+    ) -> AssignmentTotals
+        ensures { λ r. ⌜ r ≡ oneOf transactions records sum first last ⌝ }
+    {
+        AssignmentTotals {
+            totals: Totals {
+                assignments: Count(1),
+                transactions,
+                records,
+                sum,
+                first,
+            },
+            last,
+        }
+    }
+
     pub fn none() -> AssignmentTotals
         ensures { λ r. ⌜ r ≡ noneYet ⌝ }
     {

@@ -14,12 +14,13 @@ use Rattle.figures.specs.Figures.{limitWide}
 use Rattle.figures.specs.Groups.{gives}
 use Rattle.figures.specs.Totals.{_⊕_, oneRecord}
 use Rattle.figures.specs.declared.totals.Totals.{Totals}
-use Rattle.layout.specs.Rows.{member, mostAssignments, AllHold}
+use Rattle.limits.specs.Limits.{mostAssignments}
+use Rattle.layout.specs.Rows.{member, AllHold}
 use Rattle.rules.specs.Codes.{numberOfKind, kindFor, kindOf}
 use Rattle.rules.specs.Order.{behind, mayFollow}
 use Rattle.rules.specs.Layouts.{tableFor}
 use Rattle.rules.specs.Growth.{gain, turnFor, turn, keys}
-use Rattle.rules.specs.Run.{mostRecords}
+use Rattle.limits.specs.Limits.{mostRecords}
 use Rattle.rules.specs.declared.Assignment.{Assignment}
 use Rattle.rules.specs.declared.Kind.{Kind}
 use Rattle.rules.specs.declared.Kind.the-variants.{R10, R20, R88, R89}

@@ -20,15 +20,16 @@ use Rattle.fields.proofs.Values.{number-yes, number-is, written-length}
 use Rattle.fields.proofs.Width.{digit-field}
 use Rattle.dates.specs.Dates.{date, ddmmyy}
 use Rattle.dates.specs.declared.Date.{Date}
-use Rattle.dates.specs.declared.Service.{Service}
-use Rattle.dates.specs.declared.Service.the-variants.{Autogiro, Remittance}
+use Rattle.services.specs.declared.Service.{Service}
+use Rattle.services.specs.declared.Service.the-variants.{Autogiro, Remittance}
 use Rattle.dates.proofs.Laws.{earlier-none, later-none}
 use Rattle.dates.specs.declared.Window.{Window}
 use Rattle.figures.specs.Totals.{_⊕_, oneRecord}
 use Rattle.figures.specs.declared.totals.Totals.{Totals}
 use Rattle.figures.specs.Groups.{gives}
 use Rattle.layout.specs.Rows.{AllHold}
-use Rattle.rules.specs.Codes.{recordCode, codeFor, kindFor, kindOf}
+use Rattle.services.specs.Services.{codeFor}
+use Rattle.rules.specs.Codes.{recordCode, kindFor, kindOf}
 use Rattle.rules.specs.Order.{mayFollow}
 use Rattle.rules.specs.Layouts.{rows, tableFor}
 use Rattle.rules.specs.Growth.{turnFor}

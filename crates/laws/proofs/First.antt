@@ -19,7 +19,8 @@ use Rattle.rules.specs.Order.{mayEnd}
 use Rattle.rules.specs.Layouts.{rows}
 use Rattle.rules.specs.Growth.{gain, turn, keys, after}
 use Rattle.rules.specs.Run as R
-use Rattle.rules.specs.Run.{refused, stepped, stepOf, atEnd, onStep, run}
+use Rattle.rules.specs.Refusals.{refused}
+use Rattle.rules.specs.Run.{stepped, stepOf, atEnd, onStep, run}
 use Rattle.rules.specs.declared.Assignment.{Assignment}
 use Rattle.rules.specs.declared.Mode.{Mode}
 use Rattle.rules.specs.declared.Refusal.{Refusal}

@@ -11,7 +11,8 @@ use Rattle.figures.specs.Figures.{within, limitWide}
 use Rattle.figures.specs.Totals.{_⊕_}
 use Rattle.figures.specs.declared.amounts.Amount.{Amount}
 use Rattle.figures.specs.declared.totals.Totals.{Totals}
-use Rattle.layout.specs.Rows.{Row, at, must, file, holds, member, mostAssignments, AllHold}
+use Rattle.limits.specs.Limits.{mostAssignments}
+use Rattle.layout.specs.Rows.{Row, at, must, file, holds, member, AllHold}
 use Rattle.rules.specs.Codes.{kindOf, keyIn}
 use Rattle.rules.specs.Payments.{amountIn}
 use Rattle.rules.specs.Layouts.{tableFor, rows}

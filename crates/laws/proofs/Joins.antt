@@ -18,8 +18,10 @@ use Rattle.fields.specs.Bytes.{same}
 use Rattle.fields.proofs.Every.{same-is, same-self}
 use Rattle.figures.specs.Figures.{within, limitWide}
 use Rattle.figures.specs.declared.totals.Totals.{Totals}
-use Rattle.layout.specs.Rows.{mostAssignments}
-use Rattle.rules.specs.Run.{refused, recordsOf, mostRecords, judge, onWindow, checkOf}
+use Rattle.limits.specs.Limits.{mostAssignments}
+use Rattle.limits.specs.Limits.{mostRecords}
+use Rattle.rules.specs.Refusals.{refused}
+use Rattle.rules.specs.Run.{recordsOf, judge, onWindow, checkOf}
 use Rattle.rules.specs.declared.Refusal.{Refusal}
 use Rattle.rules.specs.declared.Verdict.{Verdict}
 use Rattle.rules.specs.declared.Verdict.the-variants.{Accepted, Refused}

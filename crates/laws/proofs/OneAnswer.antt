@@ -6,7 +6,7 @@ use mathlib.Core.List.{List}
 use Rattle.dates.specs.declared.ProcessDay.{ProcessDay}
 use Rattle.rules.specs.declared.Verdict.{Verdict}
 use Rattle.operations.specs.declared.Parting.{Parting}
-use Rattle.laws.specs.Promises.{CheckPromise, ClosePromise, JoinPromise, PartPromise}
+use Rattle.operations.specs.Promises.{CheckPromise, ClosePromise, JoinPromise, PartPromise}
 
 module _ (day : ProcessDay) (file : List ℕ) (x y : Verdict) where
   pub one-answer-check : CheckPromise day file x → CheckPromise day file y → x ≡ y

@@ -13,8 +13,8 @@ use Rattle.choice.specs.Choice.{if_then_else_}
 use Rattle.fields.specs.Bytes.{every}
 use Rattle.fields.proofs.Tests.{and-left, and-right, and-both}
 use Rattle.fields.proofs.Every.{every-at}
-use Rattle.dates.specs.declared.Service.{Service}
-use Rattle.dates.specs.declared.Service.the-variants.{Autogiro, Remittance}
+use Rattle.services.specs.declared.Service.{Service}
+use Rattle.services.specs.declared.Service.the-variants.{Autogiro, Remittance}
 use Rattle.figures.specs.Totals.{_⊕_}
 use Rattle.figures.specs.declared.totals.Totals.{Totals}
 use Rattle.layout.specs.Rows.{member}

@@ -17,7 +17,8 @@ use Rattle.layout.proofs.Laws.{sound-of-all, all-of-sound}
 use Rattle.rules.specs.Order.{mayEnd}
 use Rattle.rules.specs.Layouts.{rows}
 use Rattle.rules.specs.Growth.{gain, turn, keys, after}
-use Rattle.rules.specs.Run.{refused, stepped, stepOf, ended, atEnd, onStep, run}
+use Rattle.rules.specs.Refusals.{refused}
+use Rattle.rules.specs.Run.{stepped, stepOf, ended, atEnd, onStep, run}
 use Rattle.rules.specs.declared.Assignment.{Assignment}
 use Rattle.rules.specs.declared.Mode.{Mode}
 use Rattle.rules.specs.declared.Refusal.{Refusal}

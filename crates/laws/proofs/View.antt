@@ -18,7 +18,8 @@ use Rattle.rules.specs.Codes.{kindOf}
 use Rattle.rules.specs.Order.{mayFollow, mayEnd, isEnd}
 use Rattle.rules.specs.Layouts.{rows}
 use Rattle.rules.specs.Growth.{gainFor, gain, turnFor, turn, keysFor, keys, start}
-use Rattle.rules.specs.Run.{recordsOf, mostRecords, checkOf}
+use Rattle.limits.specs.Limits.{mostRecords}
+use Rattle.rules.specs.Run.{recordsOf, checkOf}
 use Rattle.rules.specs.declared.Assignment.{Assignment}
 use Rattle.rules.specs.declared.Kind.{Kind}
 use Rattle.rules.specs.declared.Kind.the-variants.{R10, R88, R89}

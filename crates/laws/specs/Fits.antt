@@ -6,7 +6,8 @@ use mathlib.Core.List.{List, [], _∷_, _++_}
 use mathlib.Core.Bool.{false}
 use Rattle.figures.specs.Figures.{limitWide}
 use Rattle.figures.specs.declared.totals.Totals.{Totals}
-use Rattle.layout.specs.Rows.{member, mostAssignments}
+use Rattle.limits.specs.Limits.{mostAssignments}
+use Rattle.layout.specs.Rows.{member}
 use Rattle.rules.specs.Codes.{kindOf}
 use Rattle.rules.specs.declared.Kind.the-variants.{R89}
 

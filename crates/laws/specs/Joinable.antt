@@ -11,9 +11,11 @@ use Rattle.dates.specs.declared.Window.{Window}
 use Rattle.dates.specs.declared.Opening.the-variants.{Open, NoDay}
 use Rattle.figures.specs.Figures.{limitWide}
 use Rattle.figures.specs.declared.totals.Totals.{Totals}
-use Rattle.layout.specs.Rows.{mostAssignments}
+use Rattle.limits.specs.Limits.{mostAssignments}
 use Rattle.rules.specs.Growth.{keys}
-use Rattle.rules.specs.Run.{refused, recordsOf, mostRecords, checkOf}
+use Rattle.limits.specs.Limits.{mostRecords}
+use Rattle.rules.specs.Refusals.{refused}
+use Rattle.rules.specs.Run.{recordsOf, checkOf}
 use Rattle.rules.specs.declared.Refusal.{Refusal}
 use Rattle.rules.specs.declared.Verdict.{Verdict}
 use Rattle.rules.specs.declared.Verdict.the-variants.{Accepted, Refused}

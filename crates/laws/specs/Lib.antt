@@ -5,4 +5,3 @@ pub mod Stripped
 pub mod View
 pub mod Joinable
 pub mod Partable
-pub mod Promises

@@ -16,7 +16,9 @@ use Rattle.rules.specs.Order.{mayEnd}
 use Rattle.rules.specs.Layouts.{rows}
 use Rattle.rules.specs.Growth.{gain, turn, keys, start}
 unfoldable pub use Rattle.rules.specs.Growth.{gains, turns, allKeys}
-use Rattle.rules.specs.Run.{refused, ended, recordsOf, badLength, mostRecords}
+use Rattle.limits.specs.Limits.{mostRecords}
+use Rattle.rules.specs.Refusals.{refused}
+use Rattle.rules.specs.Run.{ended, recordsOf, badLength}
 use Rattle.rules.specs.declared.Assignment.{Assignment}
 use Rattle.rules.specs.declared.Mode.{Mode}
 use Rattle.rules.specs.declared.Mode.the-variants.{File}

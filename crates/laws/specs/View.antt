@@ -10,7 +10,7 @@ use Rattle.layout.specs.Rows.{AllHold}
 use Rattle.rules.specs.Codes.{kindOf}
 use Rattle.rules.specs.Layouts.{rows}
 use Rattle.rules.specs.Growth.{nothingYet, start}
-use Rattle.rules.specs.Run.{mostRecords}
+use Rattle.limits.specs.Limits.{mostRecords}
 use Rattle.rules.specs.declared.Assignment.{Assignment}
 use Rattle.rules.specs.declared.Kind.the-variants.{R10, R88}
 use Rattle.rules.specs.declared.Mode.the-variants.{File}

@@ -6,6 +6,7 @@ use mathlib.Core.List.{List, [], _∷_}
 use mathlib.Core.Bool.{Bool, true, false, not, _||_}
 use lib.Dec.{ltb, eqb}
 use Rattle.choice.specs.Choice.{if_then_else_}
+use Rattle.limits.specs.Limits.{mostAssignments}
 use Rattle.fields.specs.Bytes.{part}
 use Rattle.dates.specs.Dates.{ddmmyy}
 use Rattle.figures.specs.Figures.{within, limitWide}
@@ -44,9 +45,6 @@ figureOf transactions f = f .transactions .0
 figureOf records f = f .records .0 + 1
 figureOf sum f = f .sum .0
 figureOf firstDate f = ddmmyy (f .first)
-
-abbrev pub mostAssignments : ℕ
-mostAssignments = 500
 
 -- of a file with these totals and these keys
 abbrev pub holds : Totals → List ℕ → FileTest → Bool

@@ -9,12 +9,13 @@ use Rattle.choice.specs.Choice.{if_then_else_}
 use Rattle.dates.specs.Windows.{windowOf}
 use Rattle.dates.specs.declared.ProcessDay.{ProcessDay}
 use Rattle.dates.specs.declared.Window.{Window}
-use Rattle.figures.specs.Figures.{count}
-use Rattle.figures.specs.Totals.{_⊕_, oneRecord}
+use Rattle.figures.specs.Totals.{_⊕_, oneRecord, withRecords}
 use Rattle.figures.specs.declared.totals.Totals.{Totals}
 use Rattle.rules.specs.Codes.{recordCode}
 use Rattle.rules.specs.Growth.{afterFor, after, start}
-use Rattle.rules.specs.Run.{refused, run, recordsOf, mostRecords, badLength, onWindow}
+use Rattle.limits.specs.Limits.{recordBytes, mostRecords}
+use Rattle.rules.specs.Refusals.{refused}
+use Rattle.rules.specs.Run.{run, recordsOf, badLength, onWindow}
 use Rattle.rules.specs.declared.Kind.the-variants.{R88}
 use Rattle.rules.specs.declared.Mode.the-variants.{Draft}
 use Rattle.rules.specs.declared.State.{State}
@@ -36,18 +37,11 @@ toWrite rs = length rs + openings rs + 1
 
 -- the figures of the written file: those of the draft, with an 88 for each assignment, and the 89
 abbrev pub closedFigures : Totals → Totals
-closedFigures t =
-    record {
-      assignments = t .assignments;
-      transactions = t .transactions;
-      records = count (t .records .0 + t .assignments .0 + 1);
-      sum = t .sum;
-      first = t .first;
-    }
+closedFigures t = withRecords 1 (withRecords (t .assignments .0) t)
 
 -- where a file of these figures can be written: 19 if the output is too short for it
 abbrev pub given : ℕ → Totals → Verdict
-given room t = if leb (81 * (t .records .0)) room then Accepted t else refused 19 0 0 0
+given room t = if leb (recordBytes * (t .records .0)) room then Accepted t else refused 19 0 0 0
 
 abbrev pub onAccepted : Verdict → (Totals → Verdict) → Verdict
 onAccepted (Accepted t) f = f t

@@ -7,7 +7,7 @@ use Rattle.dates.specs.declared.Date.{Date}
 use Rattle.fields.specs.Bytes.{text}
 use Rattle.fields.specs.Numbers.{written}
 use Rattle.figures.specs.declared.totals.Totals.{Totals}
-use Rattle.rules.specs.Codes.{codeFor}
+use Rattle.services.specs.Services.{codeFor}
 use Rattle.rules.specs.declared.Assignment.{Assignment}
 
 -- NY, service, 00, record type; transactions 9-16, records 17-24, sum 25-41, first date 42-47, last date 48-53; zeros to the end

@@ -6,35 +6,31 @@ use mathlib.Core.Bool.{Bool, false, _||_}
 use lib.Dec.{leb}
 use lib.ListN.{length, take, drop}
 use Rattle.choice.specs.Choice.{if_then_else_}
-use Rattle.dates.specs.Dates.{earlier}
 use Rattle.dates.specs.Windows.{windowOf}
 use Rattle.dates.specs.declared.ProcessDay.{ProcessDay}
-use Rattle.fields.specs.Bytes.{same, part}
-use Rattle.figures.specs.Figures.{count, plus, within, limitWide}
-use Rattle.figures.specs.Totals.{none, countPlus}
+use Rattle.fields.specs.Bytes.{same}
+use Rattle.figures.specs.Figures.{within, limitWide}
+use Rattle.figures.specs.Totals.{none, _⊕_, lessRecords}
 use Rattle.figures.specs.declared.totals.Totals.{Totals}
-use Rattle.layout.specs.Rows.{member, mostAssignments}
+use Rattle.limits.specs.Limits.{recordBytes, mostAssignments}
+use Rattle.layout.specs.Rows.{member}
+use Rattle.rules.specs.Fields.{bytesIn, senderField}
 use Rattle.rules.specs.Growth.{keys, allKeys}
-use Rattle.rules.specs.Run.{refused, recordsOf, mostRecords, judge, onWindow}
+use Rattle.limits.specs.Limits.{mostRecords}
+use Rattle.rules.specs.Refusals.{refused}
+use Rattle.rules.specs.Run.{recordsOf, judge, onWindow}
 use Rattle.rules.specs.declared.Verdict.{Verdict}
 use Rattle.rules.specs.declared.Verdict.the-variants.{Accepted, Refused}
 use Rattle.operations.specs.Ends.{end89}
 use Rattle.operations.specs.Closing.{given, lentAfter}
 
--- the sender: field 5 (9-16) of the record 10
+-- the sender, in the record 10
 abbrev pub sender : List ℕ → List ℕ
-sender b = part 9 16 b
+sender b = bytesIn senderField b
 
 -- both files' figures in one: records added less 2, the earlier first date
 abbrev pub both : Totals → Totals → Totals
-both s t =
-    record {
-      assignments = countPlus (s .assignments) (t .assignments);
-      transactions = countPlus (s .transactions) (t .transactions);
-      records = count (s .records .0 + t .records .0 - 2);
-      sum = plus (s .sum) (t .sum);
-      first = earlier (s .first) (t .first);
-    }
+both s t = lessRecords 2 (s ⊕ t)
 
 -- a key of the second list stands in the first
 unfoldable pub shares : List ℕ → List ℕ → Bool
@@ -70,10 +66,10 @@ joinOf day a b room = onWindow (windowOf day) (λ w. ofOperand 1 (judge w a) (λ
 
 -- a file without its 89, and its assignments alone
 abbrev pub withoutEnd : List ℕ → List ℕ
-withoutEnd b = take (length b - 81) b
+withoutEnd b = take (length b - recordBytes) b
 
 abbrev pub assignmentsOf : List ℕ → List ℕ
-assignmentsOf b = drop 81 (withoutEnd b)
+assignmentsOf b = drop recordBytes (withoutEnd b)
 
 -- the first file's record 10, both files' assignments unchanged and in order, and one new 89
 unfoldable pub joinedFile : List ℕ → List ℕ → Totals → List ℕ

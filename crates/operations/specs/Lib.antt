@@ -2,3 +2,4 @@ pub mod Ends
 pub mod Closing
 pub mod Joining
 pub mod Parting
+pub mod Promises

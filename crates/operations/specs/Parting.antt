@@ -6,11 +6,13 @@ use mathlib.Core.Bool.{Bool, _&&_}
 use lib.Dec.{eqb, leb, ltb}
 use lib.ListN.{length, take, drop}
 use Rattle.choice.specs.Choice.{if_then_else_}
+use Rattle.limits.specs.Limits.{recordBytes}
 use Rattle.dates.specs.declared.ProcessDay.{ProcessDay}
 use Rattle.figures.specs.Totals.{_⊕_, oneRecord}
 use Rattle.figures.specs.declared.totals.Totals.{Totals}
 use Rattle.rules.specs.Codes.{recordCode}
 use Rattle.rules.specs.Growth.{gains}
+use Rattle.rules.specs.Refusals.{refusal}
 use Rattle.rules.specs.Run.{recordsOf, checkOf}
 use Rattle.rules.specs.declared.Verdict.{Verdict}
 use Rattle.rules.specs.declared.Verdict.the-variants.{Accepted, Refused}
@@ -38,10 +40,10 @@ abbrev pub bodyOf : List ℕ → List (List ℕ)
 bodyOf b = recordsOf (assignmentsOf b)
 
 unfoldable pub firstPart : ℕ → List ℕ → List ℕ
-firstPart k b = bytesOf (made (take 81 b) (take (through k (bodyOf b)) (bodyOf b)))
+firstPart k b = bytesOf (made (take recordBytes b) (take (through k (bodyOf b)) (bodyOf b)))
 
 unfoldable pub secondPart : ℕ → List ℕ → List ℕ
-secondPart k b = bytesOf (made (take 81 b) (drop (through k (bodyOf b)) (bodyOf b)))
+secondPart k b = bytesOf (made (take recordBytes b) (drop (through k (bodyOf b)) (bodyOf b)))
 
 -- the check's refusals are parting's; an accepted file goes on
 abbrev pub ofCheck : Verdict → (Totals → Parting) → Parting
@@ -49,7 +51,7 @@ ofCheck (Accepted t) f = f t
 ofCheck (Refused x) f = NotParted x
 
 abbrev pub notParted : ℕ → Parting
-notParted number = NotParted (record { number = number; operand = 0; «record» = 0; field = 0 })
+notParted number = NotParted (refusal number 0 0 0)
 
 -- what parting behind the k-th assignment answers, into outputs of these lengths: 21 unless 1 <= k < assignments, 19 if either is too short
 unfoldable pub partOf : ProcessDay → List ℕ → ℕ → ℕ → ℕ → Parting

@@ -1,17 +1,17 @@
 // The office's tool over whole files: pay check, close, join and part.
 
-use asking::asked;
-use asking::asked::Command;
-use explaining::answers;
 use figures::totals::Totals;
-use outputs::Output;
-use outputs::Parts;
 use rules::Mode;
 use rules::Refusal;
 use rules::Verdict;
+use tool_command::asked;
+use tool_command::asked::Command;
+use tool_explain::answers;
+use tool_outputs::Output;
+use tool_outputs::Parts;
 
 fn check(file: &[u8]) {
-    match checking::check(asked::day(), file) {
+    match check_file::check(asked::day(), file) {
         Verdict::Accepted(t) => answers::tell_accepted(t),
         Verdict::Refused(x) => answers::tell_refused(x, Mode::File, file),
     }
@@ -21,32 +21,32 @@ fn check(file: &[u8]) {
 fn keep(argument: usize, bytes: &[u8], t: Totals) {
     let mut name = io::buffer();
     let n = os::arg(argument, &mut name);
-    if filing::save(&name[..n], bytes) {
+    if tool_files::save(&name[..n], bytes) {
         answers::tell_accepted(t);
     }
 }
 
 fn close(draft: &[u8], out: &mut [u8]) {
-    match outputs::close(asked::day(), draft, out) {
+    match tool_outputs::close(asked::day(), draft, out) {
         Output::Refused(x) => answers::tell_refused(x, Mode::Draft, draft),
         Output::File(size, t) => keep(4, &out[..size], t),
     }
 }
 
 fn join(first: &[u8], second: &[u8], out: &mut [u8]) {
-    match outputs::join(asked::day(), first, second, out) {
+    match tool_outputs::join(asked::day(), first, second, out) {
         Output::Refused(x) => answers::tell_which(x, first, second),
         Output::File(size, t) => keep(5, &out[..size], t),
     }
 }
 
 fn read_second(first: &[u8], name: &[u8], second: &mut [u8], out: &mut [u8]) {
-    let fd = filing::open_input(name);
+    let fd = tool_files::open_input(name);
     if fd < 0 {
         return;
     }
     let n = io::read_full(fd, second);
-    if filing::ended(fd, name) {
+    if tool_files::ended(fd, name) {
         join(first, &second[..n], out);
     }
 }
@@ -63,18 +63,18 @@ fn keep_parts(first: &[u8], second: &[u8]) {
     let a = os::arg(5, &mut name1);
     let mut name2 = io::buffer();
     let b = os::arg(6, &mut name2);
-    if filing::save_both(&name1[..a], first, &name2[..b], second) {
-        wording::say(b"parted\n");
+    if tool_files::save_both(&name1[..a], first, &name2[..b], second) {
+        tool_phrases::say(b"parted\n");
     }
 }
 
 // How many assignments an accepted file has, for whoever named a boundary that it does not have.
 fn tell_boundaries(file: &[u8]) {
-    match checking::check(asked::day(), file) {
-        Verdict::Refused(_x) => wording::say(b""),
+    match check_file::check(asked::day(), file) {
+        Verdict::Refused(_x) => tool_phrases::say(b""),
         Verdict::Accepted(t) => {
             let assignments = t.assignments;
-            explaining::say_boundaries(assignments.0);
+            tool_explain::say_boundaries(assignments.0);
         }
     }
 }
@@ -87,7 +87,7 @@ fn tell_not_parted(x: Refusal, file: &[u8]) {
 }
 
 fn part(file: &[u8], first: &mut [u8], second: &mut [u8]) {
-    match outputs::part(asked::day(), file, asked::boundary(), first, second) {
+    match tool_outputs::part(asked::day(), file, asked::boundary(), first, second) {
         Parts::Refused(x) => tell_not_parted(x, file),
         Parts::Files(a, b) => keep_parts(&first[..a], &second[..b]),
     }
@@ -100,18 +100,18 @@ fn serve(file: &[u8], second: &mut [u8], third: &mut [u8]) {
         Command::Close => close(file, second),
         Command::Join => with_second(file, second, third),
         Command::Part => part(file, second, third),
-        Command::Help => helping::help(),
-        Command::Unknown => helping::usage(Command::Unknown),
+        Command::Help => tool_help::help(),
+        Command::Unknown => tool_help::usage(Command::Unknown),
     }
 }
 
 fn read_first(name: &[u8], first: &mut [u8], second: &mut [u8], third: &mut [u8]) {
-    let fd = filing::open_input(name);
+    let fd = tool_files::open_input(name);
     if fd < 0 {
         return;
     }
     let n = io::read_full(fd, first);
-    if filing::ended(fd, name) {
+    if tool_files::ended(fd, name) {
         serve(&first[..n], second, third);
     }
 }
@@ -131,7 +131,7 @@ fn with_room(first: &mut [u8; 16200081], second: &mut [u8; 16200081], third: &mu
 fn hold(again: u64) {
     if 0 < again {
         hold(again - 1);
-        telling::end_line();
+        program_lines::end_line();
         return;
     }
     let mut first = [0u8; 16200081];
@@ -143,11 +143,11 @@ fn hold(again: u64) {
 fn main() {
     let command = asked::order_given();
     if let Command::Help = command {
-        helping::help();
+        tool_help::help();
         return;
     }
     if os::arg_count() != asked::words_of(command) {
-        helping::usage(command);
+        tool_help::usage(command);
         return;
     }
     // asked for a second time, so that the compiler cannot see that this is 0

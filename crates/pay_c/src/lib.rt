@@ -69,7 +69,7 @@ pub extern "C" fn pay_check(year: u64, month: u64, day: u64, file: &[u8], answer
     ensures { λ _. ⌜ now (answer .exit) ≡ numbers (checkOf (dayFrom year month day) (now (file .entry))) ⌝ }
 {
     tell(
-        checking::check(ProcessDay { year, month, day }, file),
+        check_file::check(ProcessDay { year, month, day }, file),
         answer,
     );
 }
@@ -86,7 +86,7 @@ pub extern "C" fn pay_close(
     ensures { λ _. ⌜ (now (answer .exit) ≡ numbers (closeOf (dayFrom year month day) (now (draft .entry)) (length (now (out .entry))))) × (now (out .exit) ≡ closedBytes (dayFrom year month day) (now (draft .entry)) (now (out .entry))) ⌝ }
 {
     tell(
-        closing::close(ProcessDay { year, month, day }, draft, out),
+        close_draft::close(ProcessDay { year, month, day }, draft, out),
         answer,
     );
 }
@@ -104,7 +104,7 @@ pub extern "C" fn pay_join(
     ensures { λ _. ⌜ (now (answer .exit) ≡ numbers (joinOf (dayFrom year month day) (now (first .entry)) (now (second .entry)) (length (now (out .entry))))) × (now (out .exit) ≡ joinedBytes (dayFrom year month day) (now (first .entry)) (now (second .entry)) (now (out .entry))) ⌝ }
 {
     tell(
-        joining::join(ProcessDay { year, month, day }, first, second, out),
+        join_files::join(ProcessDay { year, month, day }, first, second, out),
         answer,
     );
 }
@@ -123,7 +123,7 @@ pub extern "C" fn pay_part(
     ensures { λ _. ⌜ (now (answer .exit) ≡ partedNumbers (partOf (dayFrom year month day) (now (file .entry)) k (length (now (first .entry))) (length (now (second .entry))))) × (now (first .exit) ≡ partedFirst (dayFrom year month day) (now (file .entry)) k (now (first .entry)) (now (second .entry))) × (now (second .exit) ≡ partedSecond (dayFrom year month day) (now (file .entry)) k (now (first .entry)) (now (second .entry))) ⌝ }
 {
     tell_parting(
-        parting::part(ProcessDay { year, month, day }, file, k, first, second),
+        part_file::part(ProcessDay { year, month, day }, file, k, first, second),
         answer,
     );
 }

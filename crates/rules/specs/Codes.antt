@@ -5,9 +5,8 @@ use mathlib.Core.List.{List, [], _∷_}
 use lib.Dec.{eqb}
 use Rattle.choice.specs.Choice.{if_then_else_}
 use Rattle.fields.specs.Bytes.{part}
-use Rattle.fields.specs.Numbers.{value, codeOf}
-use Rattle.dates.specs.declared.Service.{Service}
-use Rattle.dates.specs.declared.Service.the-variants.{Autogiro, Remittance}
+use Rattle.fields.specs.Numbers.{codeOf}
+use Rattle.rules.specs.Fields.{numberIn, agreementField, assignmentField}
 use Rattle.rules.specs.declared.Kind.{Kind}
 use Rattle.rules.specs.declared.Kind.the-variants.{R10, R20, R30, R31, R40, R49, R50, R88, R89, Other}
 
@@ -20,14 +19,6 @@ typeCode r = codeOf (part 5 6 r)
 
 abbrev pub recordCode : List ℕ → ℕ
 recordCode r = codeOf (part 7 8 r)
-
--- the services' codes
-abbrev pub codeFor : Service → ℕ
-codeFor Autogiro = 1
-codeFor Remittance = 4
-
-abbrev pub serviceFor : ℕ → Service
-serviceFor n = if eqb n 1 then Autogiro else Remittance
 
 -- the nine record types
 unfoldable pub kindFor : ℕ → Kind
@@ -50,6 +41,6 @@ numberOfKind R88 = 88
 numberOfKind R89 = 89
 numberOfKind Other = 0
 
--- agreement (9-17) and assignment number (18-24) of a record 20, together
+-- agreement and assignment number of a record 20, together
 abbrev pub keyIn : List ℕ → ℕ
-keyIn r = value (part 9 17 r) * 10_000_000 + value (part 18 24 r)
+keyIn r = numberIn agreementField r * 10_000_000 + numberIn assignmentField r

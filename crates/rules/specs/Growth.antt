@@ -4,10 +4,8 @@ use Prim.Native.Nat.{ℕ}
 use mathlib.Core.List.{List, [], _∷_, _++_}
 use lib.Dec.{eqb}
 use Rattle.choice.specs.Choice.{if_then_else_}
-use Rattle.fields.specs.Bytes.{part}
-use Rattle.fields.specs.Numbers.{value}
-use Rattle.dates.specs.declared.Service.{Service}
-use Rattle.dates.specs.declared.Service.the-variants.{Remittance}
+use Rattle.services.specs.declared.Service.{Service}
+use Rattle.services.specs.declared.Service.the-variants.{Remittance}
 use Rattle.figures.specs.Figures.{amount, transactionNumber}
 use Rattle.figures.specs.Totals.{none, _⊕_, oneRecord, oneAssignment, oneTransaction, noneYet, _⊞_, undated, dated}
 use Rattle.figures.specs.Groups.{emptyGroup, withSpecified, withCredited}
@@ -17,7 +15,9 @@ use Rattle.figures.specs.declared.counts.TransactionNumber.{TransactionNumber}
 use Rattle.figures.specs.declared.groups.Group.{Group}
 use Rattle.figures.specs.declared.totals.Totals.{Totals}
 use Rattle.figures.specs.declared.totals.AssignmentTotals.{AssignmentTotals}
-use Rattle.rules.specs.Codes.{serviceCode, typeCode, serviceFor, kindOf, keyIn}
+use Rattle.services.specs.Services.{serviceFor}
+use Rattle.rules.specs.Fields.{numberIn, transactionField}
+use Rattle.rules.specs.Codes.{serviceCode, typeCode, kindOf, numberOfKind, keyIn}
 use Rattle.rules.specs.Messages.{placeIn, withPlace}
 use Rattle.rules.specs.Payments.{dateIn, amountIn}
 use Rattle.rules.specs.Layouts.{amount50}
@@ -26,18 +26,9 @@ use Rattle.rules.specs.declared.Kind.the-variants.{R10, R20, R30, R31, R
 use Rattle.rules.specs.declared.Assignment.{Assignment}
 use Rattle.rules.specs.declared.State.{State}
 
--- what a record adds to the file
+-- what a record adds to the file: itself; a 20 an assignment too; a 30 a transaction too
 abbrev pub gainFor : Kind → List ℕ → Totals
-gainFor R10 r = oneRecord
-gainFor R20 r = oneAssignment
-gainFor R30 r = oneTransaction (amountIn r) (dateIn r)
-gainFor R31 r = oneRecord
-gainFor R40 r = oneRecord
-gainFor R49 r = oneRecord
-gainFor R50 r = oneRecord
-gainFor R88 r = oneRecord
-gainFor R89 r = oneRecord
-gainFor Other r = oneRecord
+gainFor k r = if eqb (numberOfKind k) 30 then oneTransaction (amountIn r) (dateIn r) else (if eqb (numberOfKind k) 20 then oneAssignment else oneRecord)
 
 -- before any assignment, behind the record of this type
 abbrev pub nothingYet : Kind → Assignment
@@ -69,7 +60,7 @@ paidAs t n x d a =
     }
 
 abbrev pub paid : List ℕ → Assignment → Assignment
-paid r a = paidAs (typeCode r) (transactionNumber (value (part 9 15 r))) (amountIn r) (dateIn r) a
+paid r a = paidAs (typeCode r) (transactionNumber (numberIn transactionField r)) (amountIn r) (dateIn r) a
 
 -- type 16 specifies, type 17 credits
 abbrev pub groupedAs : ℕ → Amount → Group → Group
@@ -91,18 +82,9 @@ turnFor R88 r a = passed R88 (a .group) (a .places) a
 turnFor R89 r a = passed R89 (a .group) (a .places) a
 turnFor Other r a = a
 
--- the key of a record 20
+-- the key that a record 20 brings
 abbrev pub keysFor : Kind → List ℕ → List ℕ
-keysFor R10 r = []
-keysFor R20 r = keyIn r ∷ []
-keysFor R30 r = []
-keysFor R31 r = []
-keysFor R40 r = []
-keysFor R49 r = []
-keysFor R50 r = []
-keysFor R88 r = []
-keysFor R89 r = []
-keysFor Other r = []
+keysFor k r = if eqb (numberOfKind k) 20 then keyIn r ∷ [] else []
 
 abbrev pub gain : List ℕ → Totals
 gain r = gainFor (kindOf r) r

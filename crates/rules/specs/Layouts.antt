@@ -5,16 +5,18 @@ use mathlib.Core.List.{List, [], _∷_, _++_}
 use mathlib.Core.Bool.{not}
 use lib.Dec.{eqb}
 use Rattle.choice.specs.Choice.{if_then_else_}
-use Rattle.fields.specs.Bytes.{same, part}
-use Rattle.fields.specs.Numbers.{value}
+use Rattle.fields.specs.Bytes.{same}
 use Rattle.dates.specs.Dates.{ddmmyy}
 use Rattle.dates.specs.Windows.{inTime}
 use Rattle.dates.specs.declared.Window.{Window}
 use Rattle.figures.specs.Figures.{amount, transactionNumber, within, limitWide, follows}
 use Rattle.figures.specs.Groups.{gives}
+use Rattle.figures.specs.declared.totals.Totals.{Totals}
 use Rattle.layout.specs.Rules.{Rule, rule, digits, zeros, textual, fixed, listed, rightAccount, kid}
-use Rattle.layout.specs.Rows.{Row, at, must, file, takes, fresh, room, figure, transactions, records, sum, firstDate}
-use Rattle.rules.specs.Codes.{serviceCode, typeCode, codeFor, kindOf, keyIn}
+use Rattle.layout.specs.Rows.{Row, at, must, file, takes, fresh, room, figure, Figure, transactions, records, sum, firstDate}
+use Rattle.services.specs.Services.{codeFor}
+use Rattle.rules.specs.Codes.{serviceCode, typeCode, kindOf, keyIn}
+use Rattle.rules.specs.Fields.{Field, on, numberIn, senderField, agreementField, assignmentField, transactionField, dateField, amountField, lineField, columnField, specifiedField, transactionsField, recordsField, sumField, firstDateField, lastDateField}
 use Rattle.rules.specs.Order.{mayFollow}
 use Rattle.rules.specs.Messages.{placeIn, taken}
 use Rattle.rules.specs.Payments.{typeListed, aDate, dateIn, amountIn, party, partyAccount, amountAllowed, limitFor, kidFor, name, postal, filler, line, column}
@@ -31,6 +33,14 @@ lineFeed = rule (λ s. same s (10 ∷ [])) 4
 abbrev pub groupGives : Assignment → Row
 groupGives a = must (gives (a .group) (a .due)) 14 0
 
+-- fields 1 to 3 of 10 and 89, which stand outside assignments
+abbrev pub outside : List Row
+outside =
+    at 1 1 2 (fixed "NY") ∷
+    at 2 3 4 (fixed "00") ∷
+    at 3 5 6 (fixed "00") ∷
+    []
+
 -- fields 1 and 2 within an assignment
 abbrev pub belongs : Assignment → List ℕ → List Row
 belongs a r =
@@ -41,8 +51,8 @@ belongs a r =
 -- field 5 of the records that repeat the transaction number of their 30
 abbrev pub sameNumber : Assignment → List ℕ → List Row
 sameNumber a r =
-    at 5 9 15 digits ∷
-    must (eqb (value (part 9 15 r)) (a .number .0)) 12 5 ∷
+    on transactionField digits ∷
+    must (eqb (numberIn transactionField r) (a .number .0)) 12 5 ∷
     []
 
 -- fields 1 to 5 of 31, 40 and 49
@@ -51,51 +61,62 @@ repeats a r = belongs a r ++ (must (eqb (typeCode r) (a .code)) 12 3 ∷ sameNum
 
 abbrev pub record10 : List Row
 record10 =
-    at 1 1 2 (fixed "NY") ∷
-    at 2 3 4 (fixed "00") ∷
-    at 3 5 6 (fixed "00") ∷
-    at 5 9 16 digits ∷
+    outside ++
+    (on senderField digits ∷
     at 6 17 23 digits ∷
     at 7 24 31 (fixed "00008080") ∷
     at 8 32 80 zeros ∷
+    [])
+
+-- a 20 may open an assignment: there is room for one more, and the group before it gives its amount
+abbrev pub mayOpen : Assignment → List Row
+mayOpen a = file room 16 4 ∷ groupGives a ∷ []
+
+-- fields 1 to 3 of 20
+abbrev pub head20 : List Row
+head20 =
+    at 1 1 2 (fixed "NY") ∷
+    at 2 3 4 (listed ("01" ∷ "04" ∷ [])) ∷
+    at 3 5 6 (fixed "00") ∷
+    []
+
+-- fields 5 and 6 of 20
+abbrev pub key20 : List ℕ → List Row
+key20 r =
+    on agreementField digits ∷
+    on assignmentField digits ∷
+    file (fresh (keyIn r)) 15 6 ∷
+    []
+
+-- field 7 of 20
+abbrev pub account20 : List Row
+account20 =
+    at 7 25 35 digits ∷
+    at 7 25 35 rightAccount ∷
     []
 
 abbrev pub record20 : Assignment → List ℕ → List Row
 record20 a r =
-    file room 16 4 ∷
-    groupGives a ∷
-    at 1 1 2 (fixed "NY") ∷
-    at 2 3 4 (listed ("01" ∷ "04" ∷ [])) ∷
-    at 3 5 6 (fixed "00") ∷
-    at 5 9 17 digits ∷
-    at 6 18 24 digits ∷
-    file (fresh (keyIn r)) 15 6 ∷
-    at 7 25 35 digits ∷
-    at 7 25 35 rightAccount ∷
-    at 8 36 80 zeros ∷
-    []
+    mayOpen a ++ head20 ++ key20 r ++ account20 ++
+    (at 8 36 80 zeros ∷
+    [])
+
+-- fields 1 to 3 of 30
+abbrev pub head30 : Assignment → List ℕ → List Row
+head30 a r = (groupGives a ∷ belongs a r) ++ (at 3 5 6 (typeListed (serviceCode r)) ∷ [])
 
 -- field 5: above 0 first, then one more
 abbrev pub number30 : Assignment → List ℕ → List Row
 number30 a r =
-    at 5 9 15 digits ∷
-    must (follows (a .number) (transactionNumber (value (part 9 15 r)))) 12 5 ∷
+    on transactionField digits ∷
+    must (follows (a .number) (transactionNumber (numberIn transactionField r))) 12 5 ∷
     []
 
 abbrev pub date30 : Window → Assignment → List ℕ → List Row
 date30 w a r =
-    at 6 16 21 digits ∷
-    at 6 16 21 aDate ∷
+    on dateField digits ∷
+    on dateField aDate ∷
     must (inTime w (a .service) (dateIn r)) 10 6 ∷
-    []
-
--- field 8: its own limit, the assignment's, the file's
-abbrev pub amount30 : Assignment → List ℕ → List Row
-amount30 a r =
-    at 8 33 49 digits ∷
-    at 8 33 49 (amountAllowed (typeCode r)) ∷
-    must (within (a .totals .totals .sum) (amountIn r) (limitFor (a .service))) 13 8 ∷
-    file (takes (amountIn r)) 13 8 ∷
     []
 
 abbrev pub party30 : List ℕ → List Row
@@ -104,87 +125,120 @@ party30 r =
     at 7 22 32 (partyAccount (serviceCode r) (typeCode r)) ∷
     []
 
-abbrev pub record30 : Window → Assignment → List ℕ → List Row
-record30 w a r =
-    (groupGives a ∷ belongs a r) ++ (at 3 5 6 (typeListed (serviceCode r)) ∷ number30 a r) ++ date30 w a r ++ party30 r ++ amount30 a r ++
-    (at 9 50 74 (kidFor (serviceCode r) (typeCode r)) ∷
-    at 10 75 80 zeros ∷
-    [])
+-- field 8: its own limit, the assignment's, the file's
+abbrev pub amount30 : Assignment → List ℕ → List Row
+amount30 a r =
+    on amountField digits ∷
+    on amountField (amountAllowed (typeCode r)) ∷
+    must (within (a .totals .totals .sum) (amountIn r) (limitFor (a .service))) 13 8 ∷
+    file (takes (amountIn r)) 13 8 ∷
+    []
 
-abbrev pub record31 : Assignment → List ℕ → List Row
-record31 a r =
-    repeats a r ++
-    (at 6 16 25 textual ∷
+-- fields 9 and 10 of 30
+abbrev pub tail30 : List ℕ → List Row
+tail30 r =
+    at 9 50 74 (kidFor (serviceCode r) (typeCode r)) ∷
+    at 10 75 80 zeros ∷
+    []
+
+abbrev pub record30 : Window → Assignment → List ℕ → List Row
+record30 w a r = head30 a r ++ number30 a r ++ date30 w a r ++ party30 r ++ amount30 a r ++ tail30 r
+
+-- fields 6 to 9 of 31
+abbrev pub texts31 : List Row
+texts31 =
+    at 6 16 25 textual ∷
     at 7 26 50 textual ∷
     at 8 51 75 textual ∷
     at 9 76 80 zeros ∷
-    [])
+    []
+
+abbrev pub record31 : Assignment → List ℕ → List Row
+record31 a r = repeats a r ++ texts31
+
+-- fields 6 to 10 of 40, by the transaction's type
+abbrev pub address40 : ℕ → List Row
+address40 t =
+    at 6 16 45 (name t) ∷
+    at 7 46 49 (postal t) ∷
+    at 8 50 52 (filler t) ∷
+    at 9 53 77 (name t) ∷
+    at 10 78 80 zeros ∷
+    []
 
 abbrev pub record40 : Assignment → List ℕ → List Row
-record40 a r =
-    repeats a r ++
-    (at 6 16 45 (name (typeCode r)) ∷
-    at 7 46 49 (postal (typeCode r)) ∷
-    at 8 50 52 (filler (typeCode r)) ∷
-    at 9 53 77 (name (typeCode r)) ∷
-    at 10 78 80 zeros ∷
-    [])
+record40 a r = repeats a r ++ address40 (typeCode r)
 
--- the place is judged when field 8 is sound, before field 9
+-- fields 7 and 8 of 49: the place is judged when field 8 is sound, before field 9
+abbrev pub place49 : Assignment → List ℕ → List Row
+place49 a r =
+    on lineField line ∷
+    on columnField column ∷
+    must (not (taken (a .places) (placeIn r))) 17 7 ∷
+    []
+
 abbrev pub record49 : Assignment → List ℕ → List Row
 record49 a r =
-    repeats a r ++
-    (at 6 16 16 (fixed "3") ∷
-    at 7 17 19 line ∷
-    at 8 20 20 column ∷
-    must (not (taken (a .places) (placeIn r))) 17 7 ∷
-    at 9 21 60 textual ∷
+    repeats a r ++ (at 6 16 16 (fixed "3") ∷ []) ++ place49 a r ++
+    (at 9 21 60 textual ∷
     at 10 61 80 zeros ∷
     [])
 
--- field 7 (41-57) of a record 50, and the sum that it adds to: type 16 specifies, type 17 credits
+-- fields 1 to 5 of 50
+abbrev pub head50 : Assignment → List ℕ → List Row
+head50 a r = belongs a r ++ (at 3 5 6 (listed ("16" ∷ "17" ∷ [])) ∷ sameNumber a r)
+
+-- field 7 of 50, and the sum that it adds to: type 16 specifies, type 17 credits
 abbrev pub amount50 : List ℕ → ℕ
-amount50 r = value (part 41 57 r)
+amount50 r = numberIn specifiedField r
+
+abbrev pub sum50 : Assignment → List ℕ → List Row
+sum50 a r =
+    on specifiedField digits ∷
+    must (within (if eqb (typeCode r) 16 then a .group .specified else a .group .credited) (amount (amount50 r)) limitWide) 13 7 ∷
+    []
 
 abbrev pub record50 : Assignment → List ℕ → List Row
 record50 a r =
-    belongs a r ++ (at 3 5 6 (listed ("16" ∷ "17" ∷ [])) ∷ sameNumber a r) ++
-    (at 6 16 40 kid ∷
-    at 7 41 57 digits ∷
-    must (within (if eqb (typeCode r) 16 then a .group .specified else a .group .credited) (amount (amount50 r)) limitWide) 13 7 ∷
-    at 8 58 80 zeros ∷
+    head50 a r ++ (at 6 16 40 kid ∷ []) ++ sum50 a r ++
+    (at 8 58 80 zeros ∷
     [])
 
 -- a figure of record 88: Digits, and the assignment's own
-abbrev pub own : ℕ → ℕ → ℕ → List ℕ → ℕ → List Row
-own field from to r n = at field from to digits ∷ must (eqb (value (part from to r)) n) 18 field ∷ []
+abbrev pub own : Field → List ℕ → ℕ → List Row
+own x r n = on x digits ∷ must (eqb (numberIn x r) n) 18 (x .number) ∷ []
 
--- 88 counts its assignment's records, itself included
+-- fields 1 to 3 of 88
+abbrev pub head88 : Assignment → List ℕ → List Row
+head88 a r = (groupGives a ∷ belongs a r) ++ (at 3 5 6 (fixed "00") ∷ [])
+
+-- fields 5 to 8 of 88, against the totals before it: it counts its assignment's records, itself included
+abbrev pub figures88 : List ℕ → Totals → List Row
+figures88 r t =
+    own transactionsField r (t .transactions .0) ++
+    own recordsField r (t .records .0 + 1) ++
+    own sumField r (t .sum .0) ++
+    own firstDateField r (ddmmyy (t .first))
+
 abbrev pub record88 : Assignment → List ℕ → List Row
 record88 a r =
-    (groupGives a ∷ belongs a r) ++ (at 3 5 6 (fixed "00") ∷ []) ++
-    own 5 9 16 r (a .totals .totals .transactions .0) ++
-    own 6 17 24 r (a .totals .totals .records .0 + 1) ++
-    own 7 25 41 r (a .totals .totals .sum .0) ++
-    own 8 42 47 r (ddmmyy (a .totals .totals .first)) ++
-    own 9 48 53 r (ddmmyy (a .totals .last)) ++
-    (at 10 54 80 zeros ∷ [])
+    head88 a r ++ figures88 r (a .totals .totals) ++ own lastDateField r (ddmmyy (a .totals .last)) ++
+    (at 10 54 80 zeros ∷
+    [])
+
+-- a figure of record 89: Digits, and the file's own
+abbrev pub files : Field → List ℕ → Figure → List Row
+files x r w = on x digits ∷ file (figure w (numberIn x r)) 18 (x .number) ∷ []
 
 abbrev pub record89 : List ℕ → List Row
 record89 r =
-    at 1 1 2 (fixed "NY") ∷
-    at 2 3 4 (fixed "00") ∷
-    at 3 5 6 (fixed "00") ∷
-    at 5 9 16 digits ∷
-    file (figure transactions (value (part 9 16 r))) 18 5 ∷
-    at 6 17 24 digits ∷
-    file (figure records (value (part 17 24 r))) 18 6 ∷
-    at 7 25 41 digits ∷
-    file (figure sum (value (part 25 41 r))) 18 7 ∷
-    at 8 42 47 digits ∷
-    file (figure firstDate (value (part 42 47 r))) 18 8 ∷
-    at 9 48 80 zeros ∷
-    []
+    outside ++
+    files transactionsField r transactions ++
+    files recordsField r records ++
+    files sumField r sum ++
+    files firstDateField r firstDate ++
+    (at 9 48 80 zeros ∷
+    [])
 
 -- the table of a record type; no record of another type may stand anywhere
 abbrev pub tableFor : Kind → Window → Assignment → List ℕ → List Row

@@ -1,4 +1,6 @@
+pub mod Refusals
 pub mod Codes
+pub mod Fields
 pub mod Order
 pub mod Messages
 pub mod Payments

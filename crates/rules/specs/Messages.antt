@@ -5,12 +5,11 @@ use mathlib.Core.List.{List, [], _∷_}
 use mathlib.Core.Bool.{Bool}
 use lib.Bits.{bitOr}
 use lib.Dec.{eqb}
-use Rattle.fields.specs.Bytes.{part}
-use Rattle.fields.specs.Numbers.{value}
+use Rattle.rules.specs.Fields.{numberIn, lineField, columnField}
 
--- the place of a line (17-19) and a column (20)
+-- the place of a line and a column
 abbrev pub placeIn : List ℕ → ℕ
-placeIn r = value (part 17 19 r) * 2 + value (part 20 20 r)
+placeIn r = numberIn lineField r * 2 + numberIn columnField r
 
 -- the set as a mask, with a bit for each place
 unfoldable pub taken : ℕ → ℕ → Bool

@@ -6,8 +6,8 @@ use mathlib.Core.Bool.{Bool, true, false}
 use lib.Dec.{eqb}
 use Rattle.choice.specs.Choice.{if_then_else_}
 use Rattle.layout.specs.Rows.{member}
-use Rattle.dates.specs.declared.Service.{Service}
-use Rattle.dates.specs.declared.Service.the-variants.{Autogiro, Remittance}
+use Rattle.services.specs.declared.Service.{Service}
+use Rattle.services.specs.declared.Service.the-variants.{Autogiro, Remittance}
 use Rattle.rules.specs.Codes.{numberOfKind}
 use Rattle.rules.specs.declared.Kind.{Kind}
 use Rattle.rules.specs.declared.Kind.the-variants.{R10, R20, R30, R31, R40, R49, R50, R88, R89, Other}
@@ -44,16 +44,7 @@ mayFollow m a k = member (numberOfKind k) (behind m (a .last) (a .service) (a .c
 
 -- a file ends behind its 89; a draft where 88 might come
 abbrev pub isEnd : Kind → Bool
-isEnd R10 = false
-isEnd R20 = false
-isEnd R30 = false
-isEnd R31 = false
-isEnd R40 = false
-isEnd R49 = false
-isEnd R50 = false
-isEnd R88 = false
-isEnd R89 = true
-isEnd Other = false
+isEnd k = eqb (numberOfKind k) 89
 
 unfoldable pub mayEnd : Mode → Assignment → Bool
 mayEnd File a = isEnd (a .last)

@@ -5,7 +5,8 @@ use mathlib.Core.List.{List, [], _∷_}
 use mathlib.Core.Bool.{Bool, true, false, not, _&&_, _||_}
 use lib.Dec.{leb, ltb, eqb}
 use Rattle.choice.specs.Choice.{if_then_else_}
-use Rattle.fields.specs.Bytes.{every, isDigit, isBlank, isText, isDigitOrBlank, part}
+use Rattle.limits.specs.Limits.{mostOfType04}
+use Rattle.fields.specs.Bytes.{every, isDigit, isBlank, isText, isDigitOrBlank}
 use Rattle.fields.specs.Numbers.{value, codeOf}
 use Rattle.fields.specs.Accounts.{accountOf, isRight}
 use Rattle.fields.specs.Kids.{atRight, isKid, isReference}
@@ -13,12 +14,13 @@ use Rattle.dates.specs.Dates.{date, readDay}
 use Rattle.dates.specs.declared.Date.{Date}
 use Rattle.dates.specs.declared.Day.{Day}
 use Rattle.dates.specs.declared.Day.the-variants.{On, NoDate}
-use Rattle.dates.specs.declared.Service.{Service}
-use Rattle.dates.specs.declared.Service.the-variants.{Autogiro, Remittance}
+use Rattle.services.specs.declared.Service.{Service}
+use Rattle.services.specs.declared.Service.the-variants.{Autogiro, Remittance}
 use Rattle.figures.specs.Figures.{amount, limit04, limitWide}
 use Rattle.figures.specs.declared.amounts.Amount.{Amount}
 use Rattle.layout.specs.Rows.{member}
 use Rattle.layout.specs.Rules.{Rule, rule}
+use Rattle.rules.specs.Fields.{numberIn, dateField, amountField}
 
 -- the types in record 30, for a service's code
 abbrev pub typesFor : ℕ → List ℕ
@@ -45,12 +47,12 @@ abbrev pub theDate : Day → Date
 theDate (On d) = d
 theDate NoDate = date 0
 
--- field 6 (16-21) and field 8 (33-49) of a record 30
+-- what a record 30 has in field 6 and field 8
 abbrev pub dateIn : List ℕ → Date
-dateIn r = theDate (readDay (value (part 16 21 r)))
+dateIn r = theDate (readDay (numberIn dateField r))
 
 abbrev pub amountIn : List ℕ → Amount
-amountIn r = amount (value (part 33 49 r))
+amountIn r = amount (numberIn amountField r)
 
 -- field 7: service 01 an Account or a Reference; service 04 an Account, or 11 Digits of any sort for type 04
 unfoldable pub partyForm : ℕ → List ℕ → Bool
@@ -67,7 +69,7 @@ partyAccount s t = rule (partyRight s t) 11
 
 -- field 8: type 04 at most 9,999,999,999; type 16 above 0
 unfoldable pub ownLimit : ℕ → ℕ → Bool
-ownLimit t n = if eqb t 4 then leb n 9_999_999_999 else (if eqb t 16 then ltb 0 n else true)
+ownLimit t n = if eqb t 4 then leb n mostOfType04 else (if eqb t 16 then ltb 0 n else true)
 
 abbrev pub amountAllowed : ℕ → Rule
 amountAllowed t = rule (λ f. ownLimit t (value f)) 13

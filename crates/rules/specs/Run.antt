@@ -1,11 +1,12 @@
 -- Document 01, "Bytes and days" and "Refusal numbers": the records of a file or a draft in turn, their end, and the answer.
 -- Assumes nothing.
-use Prim.Native.Nat.{ℕ, zero, suc, _+_, _/_, _%_}
+use Prim.Native.Nat.{ℕ, zero, suc, _+_, _*_, _/_, _%_}
 use mathlib.Core.List.{List, [], _∷_, _++_}
 use mathlib.Core.Bool.{Bool, true, not, _||_}
 use lib.Dec.{leb, eqb}
 use lib.ListN.{length, take, drop}
 use Rattle.choice.specs.Choice.{if_then_else_}
+use Rattle.limits.specs.Limits.{recordBytes, mostRecords}
 use Rattle.dates.specs.Windows.{windowOf}
 use Rattle.dates.specs.declared.ProcessDay.{ProcessDay}
 use Rattle.dates.specs.declared.Window.{Window}
@@ -15,6 +16,7 @@ use Rattle.figures.specs.Groups.{gives}
 use Rattle.layout.specs.Rows.{firstFault}
 use Rattle.layout.specs.declared.Finding.{Finding}
 use Rattle.layout.specs.declared.Finding.the-variants.{Sound, Fault}
+use Rattle.rules.specs.Refusals.{refused}
 use Rattle.rules.specs.Order.{mayEnd}
 use Rattle.rules.specs.Layouts.{tableFor, rows}
 use Rattle.rules.specs.Growth.{keys, after, afterFor, start}
@@ -26,10 +28,7 @@ use Rattle.rules.specs.declared.State.{State}
 use Rattle.rules.specs.declared.Step.{Step}
 use Rattle.rules.specs.declared.Step.the-variants.{Next, Stop}
 use Rattle.rules.specs.declared.Verdict.{Verdict}
-use Rattle.rules.specs.declared.Verdict.the-variants.{Accepted, Refused}
-
-abbrev pub refused : ℕ → ℕ → ℕ → ℕ → Verdict
-refused number operand rec field = Refused (record { number = number; operand = operand; «record» = rec; field = field })
+use Rattle.rules.specs.declared.Verdict.the-variants.{Accepted}
 
 -- one record's step: on to the state behind it, or stop at its first fault
 abbrev pub stepped : Finding → State → Step
@@ -62,26 +61,26 @@ unfoldable pub run : Mode → Window → ℕ → State → List ℕ → List (Li
 run m w i st ks [] = atEnd m i st
 run m w i st ks (r ∷ rs) = onStep (stepOf m w st ks r) i (run m w (i + 1) (after st r) (ks ++ keys r) rs)
 
--- each record is its own 81 bytes
+-- each record is its own 81 bytes: the one behind the first k, and all of them
+abbrev pub recordAt : ℕ → List ℕ → List ℕ
+recordAt k b = take recordBytes (drop (recordBytes * k) b)
+
 unfoldable pub chunks : ℕ → List ℕ → List (List ℕ)
 chunks zero b = []
-chunks (suc n) b = take 81 b ∷ chunks n (drop 81 b)
+chunks (suc n) b = take recordBytes b ∷ chunks n (drop recordBytes b)
 
 abbrev pub recordsOf : List ℕ → List (List ℕ)
-recordsOf b = chunks (length b / 81) b
-
-abbrev pub mostRecords : ℕ
-mostRecords = 200_000
+recordsOf b = chunks (length b / recordBytes) b
 
 -- length 0 or no multiple of 81
 abbrev pub badLength : List ℕ → Bool
-badLength b = eqb (length b) 0 || not (eqb (length b % 81) 0)
+badLength b = eqb (length b) 0 || not (eqb (length b % recordBytes) 0)
 
 -- 2, then 3, then the records
 unfoldable pub judge : Window → List ℕ → Verdict
 judge w b =
     if badLength b then refused 2 0 0 0
-    else (if leb (length b / 81) mostRecords then run File w 0 start [] (recordsOf b) else refused 3 0 0 0)
+    else (if leb (length b / recordBytes) mostRecords then run File w 0 start [] (recordsOf b) else refused 3 0 0 0)
 
 -- 1 first of all
 abbrev pub onWindow : Opening → (Window → Verdict) → Verdict

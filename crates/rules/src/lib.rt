@@ -1,11 +1,13 @@
 // What document 01's rules speak of: record types, the assignment at hand, the state of a run and its answer. The rules themselves stand in specs/.
 
-use dates::Service;
+ghost use mathlib.Core.Path.{_≡_};
+ghost use Rattle.rules.specs.Refusals.{refusal};
 use figures::amounts::Amount;
 use figures::counts::TransactionNumber;
 use figures::groups::Group;
 use figures::totals::AssignmentTotals;
 use figures::totals::Totals;
+use services::Service;
 
 // Record types. Other is none of the nine; it also stands for no record yet.
 pub enum Kind {
@@ -58,6 +60,39 @@ pub struct Refusal {
     pub operand: u8,
     pub record: u64,
     pub field: u8,
+}
+
+impl Refusal {
+    // Of the whole input: no record, no field.
+    pub fn whole(number: u8) -> Refusal
+        ensures { λ x. ⌜ x ≡ refusal number 0 0 0 ⌝ }
+    {
+        Refusal::at(number, 0, 0)
+    }
+
+    // Of a record, counted from 1, and a field.
+    pub fn at(number: u8, record: u64, field: u8) -> Refusal
+        ensures { λ x. ⌜ x ≡ refusal number 0 «record» field ⌝ }
+    {
+        Refusal {
+            number,
+            operand: 0,
+            record,
+            field,
+        }
+    }
+
+    // The same of the first or the second of two files.
+    pub fn of(self, operand: u8) -> Refusal
+        ensures { λ x. ⌜ x ≡ refusal (self .number) operand (self .«record») (self .field) ⌝ }
+    {
+        Refusal {
+            number: self.number,
+            operand,
+            record: self.record,
+            field: self.field,
+        }
+    }
 }
 
 pub enum Verdict {

@@ -13,7 +13,7 @@ fn six_at(all: &[u8], from: usize) -> u64
     requires { ⌜ (1 ≤ from) × (from + 5 ≤ length (now all)) ⌝ }
 {
     let to = from + 5;
-    let Digits::Number(n) = fields::places::number_at(all, from, to) else {
+    let Digits::Number(n) = fields::number_at(all, from, to) else {
         return 0;
     };
     n
@@ -45,7 +45,10 @@ fn no_vector() {
 fn check(all: &[u8])
     requires { ⌜ 13 ≤ length (now all) ⌝ }
 {
-    telling::print_answer(checking::check(telling::process_day(six_at(all, 7)), &all[13..]));
+    program_lines::print_answer(check_file::check(
+        program_lines::process_day(six_at(all, 7)),
+        &all[13..],
+    ));
 }
 
 // `close DDMMYY ROOM`, then a draft.
@@ -57,16 +60,16 @@ fn close(all: &[u8], out: &mut [u8])
         no_vector();
         return;
     }
-    let day = telling::process_day(six_at(all, 7));
-    telling::print_answer(closing::close(day, &all[34..], &mut out[0..room]));
-    telling::print_number(hash(&out[0..room]));
+    let day = program_lines::process_day(six_at(all, 7));
+    program_lines::print_answer(close_draft::close(day, &all[34..], &mut out[0..room]));
+    program_lines::print_number(hash(&out[0..room]));
 }
 
 // The operand of a refusal.
 fn print_operand(verdict: Verdict) {
     match verdict {
         Verdict::Accepted(_t) => {}
-        Verdict::Refused(x) => telling::print_number(x.operand as u64),
+        Verdict::Refused(x) => program_lines::print_number(x.operand as u64),
     }
 }
 
@@ -85,11 +88,11 @@ fn join(all: &[u8], out: &mut [u8])
         no_vector();
         return;
     }
-    let day = telling::process_day(six_at(all, 7));
-    let verdict = joining::join(day, &all[34..to], &all[to..], &mut out[0..room]);
-    telling::print_answer(verdict);
+    let day = program_lines::process_day(six_at(all, 7));
+    let verdict = join_files::join(day, &all[34..to], &all[to..], &mut out[0..room]);
+    program_lines::print_answer(verdict);
     print_operand(verdict);
-    telling::print_number(hash(&out[0..room]));
+    program_lines::print_number(hash(&out[0..room]));
 }
 
 fn print_parting(parting: Parting) {
@@ -97,7 +100,7 @@ fn print_parting(parting: Parting) {
         Parting::Parted => {
             io::write_all(STDOUT_FILENO, b"parted");
         }
-        Parting::NotParted(x) => telling::print_answer(Verdict::Refused(x)),
+        Parting::NotParted(x) => program_lines::print_answer(Verdict::Refused(x)),
     }
 }
 
@@ -115,15 +118,15 @@ fn part(all: &[u8], first: &mut [u8], second: &mut [u8])
         no_vector();
         return;
     }
-    print_parting(parting::part(
-        telling::process_day(six_at(all, 7)),
+    print_parting(part_file::part(
+        program_lines::process_day(six_at(all, 7)),
         &all[34..],
         six_at(all, 14),
         &mut first[0..room1],
         &mut second[0..room2],
     ));
-    telling::print_number(hash(&first[0..room1]));
-    telling::print_number(hash(&second[0..room2]));
+    program_lines::print_number(hash(&first[0..room1]));
+    program_lines::print_number(hash(&second[0..room2]));
 }
 
 // By the first two letters of the first line; outputs hold `#` before anything is written.
@@ -171,7 +174,7 @@ fn one(k: u64) -> bool {
     io::write_all(STDOUT_FILENO, &name);
     io::write_all(STDOUT_FILENO, b" ");
     answer(&buffer[..n]);
-    telling::end_line();
+    program_lines::end_line();
     true
 }
 

@@ -7,7 +7,7 @@ use Rattle.pay.proofs.hold.Reads as hold
 use Rattle.pay.proofs.hold.Kinds as hold-kinds
 use Rattle.pay.proofs.+hold.Lts-hold as hold-lts
 use Rattle.pay.proofs.with_room.Reads as with-room-reads
-use Rattle.telling.proofs.end_line.Reads as end-line-reads
+use Rattle.program_lines.proofs.end_line.Reads as end-line-reads
 use Rattle.pay.proofs.+hold.{statement}
 use Rattle.pay.proofs.+hold.Tie.{close}
 

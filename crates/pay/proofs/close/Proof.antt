@@ -1,13 +1,13 @@
-use Rattle.outputs.proofs.Sizes.{closed-counts}
+use Rattle.tool_outputs.proofs.Sizes.{closed-counts}
 use borrow.Author.Needs.{needs}
 use Rattle.pay.proofs.close.Statement.{statement}
 use Rattle.pay.proofs.close.Tie as tie
 use Rattle.pay.proofs.close.Reads as reads
 use Rattle.pay.proofs.close.Lts as lts
-use Rattle.outputs.proofs.close.Reads as close-reads
-use Rattle.asking.proofs.asked.day.Reads as day-reads
+use Rattle.tool_outputs.proofs.close.Reads as close-reads
+use Rattle.tool_command.proofs.asked.day.Reads as day-reads
 use Rattle.pay.proofs.keep.Reads as keep-reads
-use Rattle.explaining.proofs.answers.tell_refused.Reads as tell-refused-reads
+use Rattle.tool_explain.proofs.answers.tell_refused.Reads as tell-refused-reads
 
 day-requires : tie.Need-day-requires
 day-requires c κs = search needs

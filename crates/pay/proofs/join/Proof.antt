@@ -1,13 +1,13 @@
-use Rattle.outputs.proofs.Sizes.{joined-counts}
+use Rattle.tool_outputs.proofs.Sizes.{joined-counts}
 use borrow.Author.Needs.{needs}
 use Rattle.pay.proofs.join.Statement.{statement}
 use Rattle.pay.proofs.join.Tie as tie
 use Rattle.pay.proofs.join.Reads as reads
 use Rattle.pay.proofs.join.Lts as lts
-use Rattle.outputs.proofs.join.Reads as join-reads
-use Rattle.asking.proofs.asked.day.Reads as day-reads
+use Rattle.tool_outputs.proofs.join.Reads as join-reads
+use Rattle.tool_command.proofs.asked.day.Reads as day-reads
 use Rattle.pay.proofs.keep.Reads as keep-reads
-use Rattle.explaining.proofs.answers.tell_which.Reads as tell-which-reads
+use Rattle.tool_explain.proofs.answers.tell_which.Reads as tell-which-reads
 
 day-requires : tie.Need-day-requires
 day-requires c κs = search needs

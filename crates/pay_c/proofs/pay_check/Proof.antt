@@ -5,7 +5,7 @@ use Rattle.pay_c.proofs.pay_check.Statement.{statement}
 use Rattle.pay_c.proofs.pay_check.Tie as tie
 use Rattle.pay_c.proofs.pay_check.Reads as reads
 use Rattle.pay_c.proofs.pay_check.Lts as lts
-use Rattle.checking.proofs.check.Reads as check-reads
+use Rattle.check_file.proofs.check.Reads as check-reads
 use Rattle.pay_c.proofs.tell.Reads as tell-reads
 
 check-requires : tie.Need-check-requires

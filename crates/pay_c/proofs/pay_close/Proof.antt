@@ -5,7 +5,7 @@ use Rattle.pay_c.proofs.pay_close.Statement.{statement}
 use Rattle.pay_c.proofs.pay_close.Tie as tie
 use Rattle.pay_c.proofs.pay_close.Reads as reads
 use Rattle.pay_c.proofs.pay_close.Lts as lts
-use Rattle.closing.proofs.close.Reads as close-reads
+use Rattle.close_draft.proofs.close.Reads as close-reads
 use Rattle.pay_c.proofs.tell.Reads as tell-reads
 
 close-requires : tie.Need-close-requires

@@ -5,7 +5,7 @@ use Rattle.pay_c.proofs.pay_join.Statement.{statement}
 use Rattle.pay_c.proofs.pay_join.Tie as tie
 use Rattle.pay_c.proofs.pay_join.Reads as reads
 use Rattle.pay_c.proofs.pay_join.Lts as lts
-use Rattle.joining.proofs.join.Reads as join-reads
+use Rattle.join_files.proofs.join.Reads as join-reads
 use Rattle.pay_c.proofs.tell.Reads as tell-reads
 
 join-requires : tie.Need-join-requires

@@ -5,7 +5,7 @@ use Rattle.pay_c.proofs.pay_part.Statement.{statement}
 use Rattle.pay_c.proofs.pay_part.Tie as tie
 use Rattle.pay_c.proofs.pay_part.Reads as reads
 use Rattle.pay_c.proofs.pay_part.Lts as lts
-use Rattle.parting.proofs.part.Reads as part-reads
+use Rattle.part_file.proofs.part.Reads as part-reads
 use Rattle.pay_c.proofs.tell_parting.Reads as tell-parting-reads
 
 part-requires : tie.Need-part-requires

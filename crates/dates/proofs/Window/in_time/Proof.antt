@@ -6,7 +6,7 @@ use mathlib.Core.Bool.{Bool, true, false, not, _&&_}
 use lib.Dec.{leb, ltb}
 use borrow.Author.Tests.{ltb-true, ltb-false, le-leb, lt-leb}
 use Rattle.dates.specs.declared.Date.{Date}
-use Rattle.dates.specs.declared.Service.{Service}
+use Rattle.services.specs.declared.Service.{Service}
 use Rattle.dates.specs.declared.Window.{Window}
 use Rattle.dates.specs.Windows.{earliest, tooLate, tooEarly, inTime}
 use borrow.Author.Needs.{needs}

@@ -4,8 +4,8 @@ use mathlib.Core.Path.{_≡_, refl, sym, _∙_}
 use native.Mathlib.Nat.{sub-self, div-one}
 use native.Mathlib.Omega.{arith}
 use lib.ListN.{length, drop, length-set, drop-of-length-le}
-use Rattle.numbers.specs.Numbers.{written}
-use Rattle.numbers.proofs.Values.{written-length, rest-next, places-next}
+use Rattle.field_digits.specs.Numbers.{written}
+use Rattle.field_digits.proofs.Values.{written-length, rest-next, places-next}
 use Rattle.fields.proofs.writing.put_number.Statement.{statement}
 use Rattle.fields.proofs.writing.put_number.Tie as tie
 use Rattle.fields.proofs.writing.put_number.Reads as reads

@@ -1,0 +1,26 @@
+use mathlib.Core.Path.{_≡_, ap₂, _∙_}
+use mathlib.Core.Bool.{_&&_}
+use Rattle.field_references.proofs.Runs.{left-is}
+use borrow.Author.Needs.{needs}
+use Rattle.field_references.proofs.kid_left.Statement.{statement}
+use Rattle.field_references.proofs.kid_left.Tie as tie
+use Rattle.field_references.proofs.kid_left.Reads as reads
+use Rattle.field_references.proofs.kid_left.Lts as lts
+use Rattle.field_bytes.proofs.classes.in_class.Reads as in-class-reads
+use Rattle.field_references.proofs.runs_to.Reads as runs-to-reads
+
+runs-to-requires : tie.Need-runs-to-requires
+runs-to-requires c κs = search needs
+
+shared-slice-read-in-class : tie.Need-shared-slice-read-in-class
+shared-slice-read-in-class c = search needs
+
+in-class-requires : tie.Need-in-class-requires
+in-class-requires c κs = search needs
+
+returns : tie.Need-returns
+returns c = ap₂ _&&_ (c .before .before .runs-to .ensures) (c .in-class .ensures) ∙ left-is _ (c .before .before .before .before .pre)
+
+pub kid-left-spec : {M : Type 1} → statement M
+kid-left-spec =
+    tie.close (tie.spec runs-to-requires shared-slice-read-in-class in-class-requires returns)

@@ -1,0 +1,32 @@
+-- A number from 1 to a bound: no digits, too large, within the bound.
+-- Assumes nothing.
+use borrow.Author.Needs.{needs}
+use Rattle.layout.proofs.Laws.{digits-pass, digits-fail, value-is}
+use Rattle.record_49.proofs.Bounds.{no-digits, too-large, in-bound}
+use Rattle.record_49.proofs.number_up_to.Statement.{statement}
+use Rattle.record_49.proofs.number_up_to.Tie as tie
+
+number-at-requires : tie.Need-number-at-requires
+number-at-requires c κs = search needs
+
+enum-known-n : tie.Need-enum-known-n
+enum-known-n c = search needs
+
+enum-told : tie.Need-enum-told
+enum-told c = search needs
+
+returns : tie.Need-returns
+returns c = no-digits _ _ (digits-fail _ _ (c .before .before .number-at .ensures) (c .enum-told .given .1))
+
+returns-2 : tie.Need-returns-2
+returns-2 c = too-large _ _ _ (value-is _ _ (c .before .before .before .before .number-at .ensures) _ (c .before .before .n .given .1)) (c .if1 .taken)
+
+returns-3 : tie.Need-returns-3
+returns-3 c =
+    let read = c .before .before .before .before .number-at .ensures in
+    let is = c .before .before .n .given .1 in
+    in-bound _ _ _ (digits-pass _ _ read _ is) (value-is _ _ read _ is) (c .if1 .left)
+
+pub number-up-to-spec : {M : Type 1} → statement M
+number-up-to-spec =
+    tie.close (tie.spec number-at-requires enum-known-n enum-told returns returns-2 returns-3)

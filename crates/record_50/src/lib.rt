@@ -1,0 +1,106 @@
+// Record 50: a sub-specification of the payment, which its sum has room for.
+
+ghost use mathlib.Core.Path.{_≡_};
+ghost use mathlib.Core.Bool.{true};
+ghost use mathlib.Core.List.{List};
+ghost use Prim.Native.Nat.{ℕ};
+ghost use lib.Dec.{eqb};
+ghost use lib.ListN.{length};
+ghost use Rattle.choice.specs.Choice.{if_then_else_};
+ghost use Rattle.layout.specs.Rows.{firstFault, AllHold};
+ghost use Rattle.record_50.specs.Pieces.{head50};
+ghost use Rattle.record_50.specs.Found.{AmountBy, SpecifiedBy};
+use fields::digits::Digits;
+use figures::amounts::Amount;
+use figures::groups::Group;
+use figures::totals::Totals;
+use layout::Finding;
+use rules::Assignment;
+
+// What a record 50 is found to be, and its amount where it is sound.
+pub struct Specified {
+    pub finding: Finding,
+    pub amount: Amount,
+}
+
+// Fields 1 to 5 of a record 50.
+fn heading(r: &[u8], a: Assignment) -> Finding
+    requires { ⌜ length (now r) ≡ 81 ⌝ }
+    ensures { λ x. ⌜ ((f : Totals) (ks : List ℕ) → x ≡ firstFault f ks (now (r .entry)) (head50 a (now (r .entry)))) ⌝ }
+{
+    let service = a.service;
+    let number = a.number;
+    record_shared::belonging(r, service)
+        .demand(
+            fields::same_at(r, 5, 6, b"16") | fields::same_at(r, 5, 6, b"17"),
+            7,
+            3,
+        )
+        .or_else(record_shared::same_number(r, number))
+}
+
+// Fields 1 to 5 of a record 50 are those of its transaction: told at once.
+fn headed(r: &[u8], a: Assignment) -> bool
+    requires { ⌜ length (now r) ≡ 81 ⌝ }
+    ensures { λ x. ⌜ (x ≡ true → (f : Totals) (ks : List ℕ) → AllHold f ks (now (r .entry)) (head50 a (now (r .entry)))) ⌝ }
+{
+    let service = a.service;
+    let number = a.number;
+    let code = fields::code_at(r, 5);
+    let Digits::Number(n) = fields::number_at(r, 9, 15) else {
+        return false;
+    };
+    record_shared::belongs_to(r, service)
+        & ((code == 16) | (code == 17))
+        & record_shared::numbered(n).equals(number)
+}
+
+// The sum that a record 50 of this type adds to.
+fn sum_for(code: u8, group: Group) -> Amount
+    ensures { λ x. ⌜ x ≡ (if eqb code 16 then group .specified else group .credited) ⌝ }
+{
+    if code == 16 {
+        return group.specified;
+    }
+    group.credited
+}
+
+// Field 7 of a record 50, which its sum has room for.
+fn specifying(r: &[u8], a: Assignment) -> Specified
+    requires { ⌜ length (now r) ≡ 81 ⌝ }
+    ensures { λ x. ⌜ AmountBy a (now (r .entry)) x ⌝ }
+{
+    let Digits::Number(n) = fields::number_at(r, 41, 57) else {
+        return Specified {
+            finding: Finding::Fault(8, 7),
+            amount: Amount(0),
+        };
+    };
+    let group = a.group;
+    let amount = Amount(n);
+    let sum = sum_for(fields::code_at(r, 5), group);
+    Specified {
+        finding: Finding::Sound.demand(sum.holds(amount, Amount(99_999_999_999_999_999)), 13, 7),
+        amount,
+    }
+}
+
+// Where all but the amount holds, the record is what its amount is found to be: no other fault is looked for.
+pub fn check50(r: &[u8], a: Assignment) -> Specified
+    requires { ⌜ length (now r) ≡ 81 ⌝ }
+    ensures { λ x. ⌜ SpecifiedBy a (now (r .entry)) x ⌝ }
+{
+    let specified = specifying(r, a);
+    if headed(r, a) & fields::kid_at(r, 16) & fields::zeros_from(r, 58) {
+        return specified;
+    }
+    let found = specified.finding;
+    let amount = specified.amount;
+    Specified {
+        finding: heading(r, a)
+            .demand(fields::kid_at(r, 16), 8, 6)
+            .or_else(found)
+            .demand(fields::zeros_from(r, 58), 7, 8),
+        amount,
+    }
+}

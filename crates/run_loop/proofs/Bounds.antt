@@ -1,0 +1,3 @@
+-- The figures stay small behind a sound record. Passed on from `steps`.
+-- Assumes nothing.
+pub use Rattle.run_step.proofs.Bounds.{pays, small-next}

@@ -1,3 +1,0 @@
--- The figures stay small behind a sound record. Passed on from `steps`.
--- Assumes nothing.
-pub use Rattle.steps.proofs.Bounds.{pays, small-next}

@@ -1,0 +1,105 @@
+// Names of files: a new one beside an output, and an output's folder.
+
+ghost use mathlib.Core.Path.{_≡_};
+ghost use Prim.Native.Nat.{_≤_, _<_};
+ghost use lib.ListN.{length, take};
+ghost use Rattle.io.specs.Counts.{Counts};
+ghost use Rattle.tool_names.specs.Names.{longer, endingOf};
+
+// A name with the ending behind it; none where that is too long for the buffer.
+pub fn lengthened(name: &[u8], ending: &[u8], buffer: &mut [u8]) -> usize
+    ensures { λ n. ⌜ Counts n (now (buffer .exit)) × (take n (now (buffer .exit)) ≡ longer (length (now (buffer .entry))) (now (name .entry)) (now (ending .entry))) ⌝ }
+{
+    let len = name.len();
+    let room = buffer.len();
+    if room < len {
+        return 0;
+    }
+    if room - len < ending.len() {
+        return 0;
+    }
+    write_file::copy_to(buffer, name);
+    write_file::copy_to(&mut buffer[len..], ending);
+    len + ending.len()
+}
+
+// A point, the run's mark, a point and a word.
+fn ending_of(m: [u8; 7], word: [u8; 3]) -> [u8; 12]
+    ensures { λ x. ⌜ x ≡ endingOf m word ⌝ }
+{
+    [
+        46,
+        m[0],
+        m[1],
+        m[2],
+        m[3],
+        m[4],
+        m[5],
+        m[6],
+        46,
+        word[0],
+        word[1],
+        word[2],
+    ]
+}
+
+// The name of a file beside an output: in its folder, since the ending has no slash.
+pub fn beside(name: &[u8], m: [u8; 7], word: [u8; 3], buffer: &mut [u8]) -> usize
+    ensures { λ n. ⌜ Counts n (now (buffer .exit)) × (take n (now (buffer .exit)) ≡ longer (length (now (buffer .entry))) (now (name .entry)) (endingOf m word)) ⌝ }
+{
+    let ending = ending_of(m, word);
+    lengthened(name, &ending, buffer)
+}
+
+fn digit(b: u8) -> u8
+    ensures { λ x. ⌜ x ≤ 57 ⌝ }
+{
+    48 + b % 10
+}
+
+// Seven digits by chance, so that no two runs make one file.
+pub fn mark() -> [u8; 7] {
+    let mut chance = [0u8; 7];
+    libc::getentropy(&mut chance);
+    [
+        digit(chance[0]),
+        digit(chance[1]),
+        digit(chance[2]),
+        digit(chance[3]),
+        digit(chance[4]),
+        digit(chance[5]),
+        digit(chance[6]),
+    ]
+}
+
+// The length up to and with the slash at i, or else as before.
+fn slash_or(n: usize, i: usize, b: u8, len: usize) -> usize
+    requires { ⌜ (n ≤ len) × (i < len) ⌝ }
+    ensures { λ x. ⌜ x ≤ len ⌝ }
+{
+    if b == 47 {
+        return i + 1;
+    }
+    n
+}
+
+// How many bytes of a name are its folder: up to and with the last slash.
+fn folder_of(name: &[u8]) -> usize
+    ensures { λ n. ⌜ Counts n (now (name .entry)) ⌝ }
+{
+    let mut n: usize = 0;
+    let mut i: usize = 0;
+    while i < name.len() {
+        n = slash_or(n, i, name[i], name.len());
+        i += 1;
+    }
+    n
+}
+
+// The name of an output's folder: what stands before its last slash, or the folder at hand.
+pub fn folder(name: &[u8], buffer: &mut [u8]) -> usize
+    ensures { λ n. ⌜ Counts n (now (buffer .exit)) ⌝ }
+{
+    let len = folder_of(name);
+    lengthened(&name[..len], b".", buffer)
+}

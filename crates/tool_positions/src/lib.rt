@@ -1,0 +1,58 @@
+// Where the fields of a record stand, positions counted from 1.
+
+ghost use mathlib.Core.Path.{_≡_};
+ghost use Prim.Native.Nat.{_<_};
+ghost use Rattle.tool_positions.specs.Places.{endsOf, nowhere, placeOf};
+use rules::Kind;
+
+pub struct Place {
+    pub from: usize,
+    pub to: usize,
+}
+
+// The last position of each field, with 0 before the first. A record has 8 to 10 fields.
+fn ends_of(kind: Kind) -> [u8; 11]
+    ensures { λ r. ⌜ r ≡ endsOf kind ⌝ }
+{
+    match kind {
+        Kind::R10 => [0, 2, 4, 6, 8, 16, 23, 31, 80, 80, 80],
+        Kind::R20 => [0, 2, 4, 6, 8, 17, 24, 35, 80, 80, 80],
+        Kind::R30 => [0, 2, 4, 6, 8, 15, 21, 32, 49, 74, 80],
+        Kind::R31 => [0, 2, 4, 6, 8, 15, 25, 50, 75, 80, 80],
+        Kind::R40 => [0, 2, 4, 6, 8, 15, 45, 49, 52, 77, 80],
+        Kind::R49 => [0, 2, 4, 6, 8, 15, 16, 19, 20, 60, 80],
+        Kind::R50 => [0, 2, 4, 6, 8, 15, 40, 57, 80, 80, 80],
+        Kind::R88 => [0, 2, 4, 6, 8, 16, 24, 41, 47, 53, 80],
+        Kind::R89 => [0, 2, 4, 6, 8, 16, 24, 41, 47, 80, 80],
+        Kind::Other => [0, 2, 4, 6, 8, 80, 80, 80, 80, 80, 80],
+    }
+}
+
+fn wide(b: u8) -> usize
+    ensures { λ r. ⌜ (r ≡ b) × (r < 256) ⌝ }
+{
+    b as usize
+}
+
+fn nowhere() -> Place
+    ensures { λ p. ⌜ p ≡ nowhere ⌝ }
+{
+    Place { from: 0, to: 0 }
+}
+
+// The place of a field; from 0 where there is no such field.
+pub fn place_of(kind: Kind, field: usize) -> Place
+    ensures { λ p. ⌜ p ≡ placeOf kind field ⌝ }
+{
+    if field < 1 {
+        return nowhere();
+    }
+    if 10 < field {
+        return nowhere();
+    }
+    let ends = ends_of(kind);
+    Place {
+        from: wide(ends[field - 1]) + 1,
+        to: wide(ends[field]),
+    }
+}
