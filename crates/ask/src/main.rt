@@ -1,6 +1,6 @@
 // Document 01's program: a line DDMMYY and up to 800 records on standard input, one line of answer.
 
-use fields::digits::Digits;
+use field_digits::Digits;
 use libc::STDIN_FILENO;
 use libc::STDOUT_FILENO;
 

@@ -36,7 +36,7 @@ use Rattle.rules.proofs.Codes.{twenty}
 use Rattle.run_loop.specs.Figured.{blocks, figuresIn}
 use Rattle.run_loop.proofs.Bounds.{small-next}
 use Rattle.run_loop.proofs.Figures.{blocks-on, blocks-open, blocks-none}
-use Rattle.run_loop.proofs.Records.{rest-next, rest-end}
+use Rattle.rules.proofs.Records.{rest-next, rest-end}
 use Rattle.close_blocks.specs.Block.{recordsFrom, between, recordAt, state, brought, Ahead, behindEnd, Block}
 use Rattle.close_blocks.proofs.Within.{under, not-opening, grows, GrowsBy}
 

@@ -11,7 +11,7 @@ use Rattle.choice.specs.Choice.{if_then_else_}
 use Rattle.operations.specs.Closing.{opens, openings}
 use Rattle.rules.specs.Codes.{recordCode}
 use Rattle.rules.specs.Run.{recordsOf}
-use Rattle.run_loop.proofs.Records.{rest, rest-next, rest-end, rest-start, part-is}
+use Rattle.rules.proofs.Records.{rest, rest-next, rest-end, rest-start, part-is}
 use Rattle.close_blocks.specs.Block.{recordAt}
 use Rattle.close_blocks.proofs.Walk.{handed}
 

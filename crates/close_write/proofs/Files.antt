@@ -40,7 +40,7 @@ use Rattle.rules.proofs.Codes.{twenty}
 use Rattle.run_loop.specs.Figured.{blocks, figuresIn}
 use Rattle.run_loop.proofs.Figures.{blocks-on, blocks-open}
 use Rattle.run_loop.proofs.Loop.{small-start}
-use Rattle.run_loop.proofs.Records.{rest-start, rest-end, part-is}
+use Rattle.rules.proofs.Records.{rest-start, rest-end, part-is}
 use Rattle.write_file.proofs.Wrote.{Wrote, at-first, behind, told, wrote-length, room-behind, end-length}
 use Rattle.close_blocks.specs.Block.{recordsFrom, between, recordAt, state, Ahead, behindEnd, Block}
 use Rattle.run_loop.proofs.Keys.{twenty-code}

@@ -1,18 +1,12 @@
 // The fields of a record by their positions, counted from 1 as document 01 counts them, and numbers into fields. What a field's bytes may be is in the crates below;
-// their types and operations that other crates name are passed on here.
-
-pub mod accounts;
-pub mod classes;
-pub mod digits;
-pub mod texts;
-pub mod writing;
+// the definitions that other crates name are passed on here.
 
 ghost use mathlib.Core.Path.{_≡_};
 ghost use Prim.Native.Nat.{_+_, _≤_};
 ghost use lib.ListN.{length};
 ghost use Rattle.field_bytes.specs.Bytes.{every, isZero, same, part, Inside};
 ghost use Rattle.field_bytes.specs.Classes.{inClass};
-ghost use Rattle.field_digits.specs.Numbers.{numberOf, paired, codeOf};
+ghost use Rattle.field_digits.specs.Numbers.{numberOf, paired, written, codeOf};
 ghost use Rattle.field_accounts.specs.Accounts.{accountOf, isRight};
 ghost use Rattle.field_references.specs.Kids.{atRight, isKid, isReference};
 ghost use Rattle.field_words.specs.Words.{bytesOf};
@@ -114,4 +108,17 @@ pub fn reference_at(r: &[u8], from: usize, to: usize) -> bool
     ensures { λ b. ⌜ b ≡ isReference (part from to (now (r .entry))) ⌝ }
 {
     field_references::reference(&r[from - 1..to])
+}
+
+// As many of the last digits of `n` as `out` has places, right with zeros.
+pub fn put_number(out: &mut [u8], n: u64)
+    ensures { λ _. ⌜ now (out .exit) ≡ written (length (now (out .entry))) n ⌝ }
+{
+    let mut i = out.len();
+    let mut rest = n;
+    while 0 < i {
+        i -= 1;
+        out[i] = 48 + (rest % 10) as u8;
+        rest = rest / 10;
+    }
 }

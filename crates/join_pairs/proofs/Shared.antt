@@ -19,7 +19,7 @@ use Rattle.rules.specs.Run.{chunks, recordsOf}
 use Rattle.rules.specs.declared.Kind.{Kind}
 use Rattle.rules.specs.declared.Kind.the-variants.{R20}
 use Rattle.rules.proofs.Codes.{twenty, no-key}
-use Rattle.run_loop.proofs.Records.{rest, rest-next, rest-end, rest-start, part-is, part-long}
+use Rattle.rules.proofs.Records.{rest, rest-next, rest-end, rest-start, part-is, part-long}
 use Rattle.close_blocks.specs.Block.{recordAt}
 use Rattle.close_blocks.proofs.Walk.{handed}
 use Rattle.join_pairs.specs.Pairs.{Keyed, AllKeyed}

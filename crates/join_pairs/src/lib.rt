@@ -20,7 +20,7 @@ fn same_sender(first: &[u8], second: &[u8]) -> bool
     requires { ⌜ (16 ≤ length (now first)) × (16 ≤ length (now second)) ⌝ }
     ensures { λ x. ⌜ x ≡ same (sender (now (first .entry))) (sender (now (second .entry))) ⌝ }
 {
-    fields::texts::same_bytes(&first[8..16], &second[8..16])
+    field_bytes::texts::same_bytes(&first[8..16], &second[8..16])
 }
 
 // One of the second file's keys stands among the first's.

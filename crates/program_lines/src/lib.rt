@@ -30,7 +30,7 @@ pub fn print_number(n: u64) {
 // A date as DDMMYY.
 fn print_date(d: Date) {
     let mut digits = [48u8; 6];
-    fields::writing::put_number(&mut digits, dates::ddmmyy_of(d));
+    fields::put_number(&mut digits, dates::ddmmyy_of(d));
     io::write_all(STDOUT_FILENO, b" ");
     io::write_all(STDOUT_FILENO, &digits);
 }

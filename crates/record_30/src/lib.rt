@@ -12,7 +12,7 @@ ghost use Rattle.rules.specs.Layouts.{groupGives, belongs};
 ghost use Rattle.record_30.specs.Paid.{tail30, RestBy, PaidBy};
 use dates::Date;
 use dates::Window;
-use fields::classes::Class;
+use field_bytes::classes::Class;
 use figures::amounts::Amount;
 use figures::counts::TransactionNumber;
 use figures::totals::Totals;

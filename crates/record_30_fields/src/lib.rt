@@ -13,8 +13,8 @@ ghost use Rattle.layout.specs.Rows.{member, firstFault};
 ghost use Rattle.rules.specs.Codes.{serviceCode, typeCode};
 ghost use Rattle.rules.specs.Payments.{typesFor, isType, kidForm};
 ghost use Rattle.rules.specs.Layouts.{party30};
-use fields::accounts::Account;
-use fields::classes::Class;
+use field_accounts::Account;
+use field_bytes::classes::Class;
 use figures::totals::Totals;
 use layout::Finding;
 

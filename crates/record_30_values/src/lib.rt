@@ -10,7 +10,7 @@ ghost use Rattle.record_30_values.specs.Values.{NumberedBy, DatedBy, Pri
 use dates::Date;
 use dates::Day;
 use dates::Window;
-use fields::digits::Digits;
+use field_digits::Digits;
 use figures::amounts::Amount;
 use figures::counts::TransactionNumber;
 use figures::totals::Totals;

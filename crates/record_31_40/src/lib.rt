@@ -11,7 +11,7 @@ ghost use Rattle.rules.specs.Codes.{typeCode};
 ghost use Rattle.rules.specs.Layouts.{repeats, record31, record40};
 ghost use Rattle.rules.specs.Payments.{nameForm, postalForm, fillerForm};
 ghost use Rattle.record_31_40.specs.Pieces.{texts31, address40, ownFields};
-use fields::classes::Class;
+use field_bytes::classes::Class;
 use figures::counts::TransactionNumber;
 use figures::totals::Totals;
 use layout::Finding;

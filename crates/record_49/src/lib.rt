@@ -7,8 +7,8 @@ ghost use Rattle.fields.specs.Bytes.{part, Inside};
 ghost use Rattle.rules.specs.Messages.{taken, withPlace};
 ghost use Rattle.record_49.specs.Pieces.{upTo};
 ghost use Rattle.record_49.specs.Found.{PlaceBy, PlacedBy};
-use fields::classes::Class;
-use fields::digits::Digits;
+use field_bytes::classes::Class;
+use field_digits::Digits;
 use layout::Finding;
 use rules::Assignment;
 

@@ -10,7 +10,7 @@ ghost use Rattle.choice.specs.Choice.{if_then_else_};
 ghost use Rattle.layout.specs.Rows.{firstFault, AllHold};
 ghost use Rattle.record_50.specs.Pieces.{head50};
 ghost use Rattle.record_50.specs.Found.{AmountBy, SpecifiedBy};
-use fields::digits::Digits;
+use field_digits::Digits;
 use figures::amounts::Amount;
 use figures::groups::Group;
 use figures::totals::Totals;

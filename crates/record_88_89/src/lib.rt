@@ -8,7 +8,7 @@ ghost use Rattle.fields.specs.Bytes.{Inside};
 ghost use Rattle.layout.specs.Rows.{firstFault};
 ghost use Rattle.rules.specs.Layouts.{own, record88, record89};
 ghost use Rattle.record_88_89.specs.Stages.{head88, figuresIn};
-use fields::digits::Digits;
+use field_digits::Digits;
 use figures::counts::Count;
 use figures::totals::Totals;
 use layout::Finding;

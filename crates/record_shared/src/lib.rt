@@ -11,7 +11,7 @@ ghost use Rattle.layout.specs.Rows.{firstFault, AllHold};
 ghost use Rattle.services.specs.Services.{codeFor};
 ghost use Rattle.rules.specs.Layouts.{belongs, sameNumber, repeats};
 ghost use Rattle.record_shared.specs.Heads.{outside, headOf, Belonging};
-use fields::digits::Digits;
+use field_digits::Digits;
 use figures::counts::TransactionNumber;
 use figures::totals::Totals;
 use layout::Finding;

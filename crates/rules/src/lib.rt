@@ -1,12 +1,17 @@
 // What document 01's rules speak of: record types, the assignment at hand, the state of a run and its answer. The rules themselves stand in specs/.
 
 ghost use mathlib.Core.Path.{_≡_};
+ghost use Prim.Native.Nat.{_*_, _+_, _≤_};
+ghost use lib.ListN.{length};
+ghost use Rattle.limits.specs.Limits.{recordBytes};
 ghost use Rattle.rules.specs.Refusals.{refusal};
+ghost use Rattle.rules.specs.Run.{recordAt};
 use figures::amounts::Amount;
 use figures::counts::TransactionNumber;
 use figures::groups::Group;
 use figures::totals::AssignmentTotals;
 use figures::totals::Totals;
+use limits::RECORD_BYTES;
 use services::Service;
 
 // Record types. Other is none of the nine; it also stands for no record yet.
@@ -98,4 +103,14 @@ impl Refusal {
 pub enum Verdict {
     Accepted(Totals),
     Refused(Refusal),
+}
+
+// The record behind the first k: its own 81 bytes of the file.
+pub fn record_at(bytes: &[u8], k: usize) -> &[u8]
+    requires { ⌜ recordBytes * k + recordBytes ≤ length (now bytes) ⌝ }
+    ensures { λ r. ⌜ (now r ≡ recordAt k (now (bytes .entry))) × (length (now r) ≡ recordBytes) ⌝ }
+{
+    let at = RECORD_BYTES * k;
+    let end = at + RECORD_BYTES;
+    &bytes[at..end]
 }

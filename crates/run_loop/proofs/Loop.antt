@@ -33,7 +33,7 @@ use Rattle.run_keep.specs.Kept.{Keyed, Kept, Noted}
 use Rattle.run_step.proofs.Steps.{went-on, run-next, run-stop, table-holds, table-of, may-stand, never-other, Opens, opens}
 use Rattle.run_step.proofs.Bounds.{small-next}
 use Rattle.run_loop.proofs.Figures.{figures-next, figures-last}
-use Rattle.run_loop.proofs.Records.{rest, rest-next, rest-end, rest-start, part-long}
+use Rattle.rules.proofs.Records.{rest, rest-next, rest-end, rest-start, part-long}
 
 -- only a record 20 adds an assignment and a key
 one-or-none : (k : Kind) (r : List ℕ) → (gainFor k r .assignments .0 ≡ 0) ⊎ ((k ≡ R20) × (gainFor k r .assignments .0 ≡ 1))

@@ -4,7 +4,7 @@ ghost use mathlib.Core.Path.{_≡_};
 ghost use Rattle.fields.specs.Bytes.{same};
 ghost use Rattle.tool_command.specs.Words.{commandFrom, wordsOf, noDay, dayFrom, numberFrom};
 use dates::ProcessDay;
-use fields::digits::Digits;
+use field_digits::Digits;
 
 pub enum Command {
     Check,
@@ -21,7 +21,7 @@ fn is_word(s: &[u8], word: &[u8]) -> bool
     if s.len() != word.len() {
         return false;
     }
-    fields::texts::same_bytes(s, word)
+    field_bytes::texts::same_bytes(s, word)
 }
 
 fn command_from(word: &[u8]) -> Command
@@ -82,7 +82,7 @@ fn day_from(word: &[u8]) -> ProcessDay
     if word.len() != 6 {
         return no_day();
     }
-    let Digits::Number(ddmmyy) = fields::digits::number(word) else {
+    let Digits::Number(ddmmyy) = field_digits::number(word) else {
         return no_day();
     };
     program_lines::process_day(ddmmyy)
@@ -101,7 +101,7 @@ fn number_from(word: &[u8]) -> u64
     if 17 < word.len() {
         return 0;
     }
-    let Digits::Number(n) = fields::digits::number(word) else {
+    let Digits::Number(n) = field_digits::number(word) else {
         return 0;
     };
     n

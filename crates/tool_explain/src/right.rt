@@ -11,7 +11,7 @@ use tool_remedies::Remedy;
 // A number in so many digits.
 fn say_digits(n: u64, width: usize) {
     let mut field = [48u8; 17];
-    fields::writing::put_number(&mut field, n);
+    fields::put_number(&mut field, n);
     if 17 < width {
         return;
     }

@@ -34,7 +34,7 @@ use Rattle.laws.proofs.EndRecords.{sized-89}
 use Rattle.laws.proofs.Joining.{joined-fits, joined-bytes}
 use Rattle.laws.proofs.Parting.{parted-fits, parted-bytes}
 use Rattle.laws.proofs.Slices.{bodyIn, body-is, long-enough}
-use Rattle.run_loop.proofs.Records.{rest, rest-next, rest-end, rest-start, part-is}
+use Rattle.rules.proofs.Records.{rest, rest-next, rest-end, rest-start, part-is}
 use Rattle.io.specs.Counts.{Counts}
 use Rattle.tool_outputs.specs.Filled.{Filled, Closed, Joined, PartedTo}
 use Rattle.tool_outputs.specs.declared.Output.{Output}

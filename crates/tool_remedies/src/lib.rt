@@ -7,7 +7,7 @@ ghost use Rattle.fields.specs.Accounts.{accountOf};
 ghost use Rattle.rules.specs.Run.{recordsOf};
 ghost use Rattle.tool_walk.specs.Behind.{outsideOf, behindOf, Followed};
 ghost use Rattle.tool_remedies.specs.Right.{accountPart, accountFor, remedyOf, atHand, allowedAt};
-use fields::accounts::Account;
+use field_accounts::Account;
 use figures::amounts::Amount;
 use figures::groups::Group;
 use rules::Assignment;

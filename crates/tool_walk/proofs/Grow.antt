@@ -22,7 +22,7 @@ use Rattle.rules.specs.Payments.{theDate, dateIn, amountIn}
 use Rattle.rules.specs.Run.{recordsOf}
 use Rattle.rules.specs.declared.Kind.{Kind}
 use Rattle.rules.specs.declared.Kind.the-variants.{R30, Other}
-use Rattle.run_loop.proofs.Records.{rest, rest-next, rest-end, rest-start, part-is, part-long}
+use Rattle.rules.proofs.Records.{rest, rest-next, rest-end, rest-start, part-is, part-long}
 use Rattle.tool_walk.specs.Behind.{outsideOf, paidOn, onwardFor, onward, onwards, behindOf, hasRoom, Takes, Payable, Follows, Followed}
 use Rattle.tool_walk.specs.declared.Behind.{Behind}
 

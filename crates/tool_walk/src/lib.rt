@@ -12,7 +12,7 @@ ghost use Rattle.figures.specs.Totals.{none};
 ghost use Rattle.tool_walk.specs.Behind.{outsideOf, passedOn, paidOn, onwardFor, onward, behindOf, hasRoom, Takes, Payable, Follows, Followed};
 use dates::Date;
 use dates::Day;
-use fields::digits::Digits;
+use field_digits::Digits;
 use figures::amounts::Amount;
 use figures::counts::TransactionNumber;
 use figures::totals::AssignmentTotals;

@@ -3,7 +3,7 @@
 ghost use Prim.Native.Nat.{_+_, _≤_, _<_};
 ghost use lib.ListN.{length};
 use dates::ProcessDay;
-use fields::digits::Digits;
+use field_digits::Digits;
 use libc::STDOUT_FILENO;
 use operations::Parting;
 use rules::Verdict;

@@ -37,7 +37,7 @@ fn put_digits(out: &mut [u8], at: usize, places: usize, n: u64)
     ensures { λ _. ⌜ now (out .exit) ≡ take at (now (out .entry)) ++ (written places n ++ drop (at + places) (now (out .entry))) ⌝ }
 {
     let end = at + places;
-    fields::writing::put_number(&mut out[at..end], n);
+    fields::put_number(&mut out[at..end], n);
 }
 
 // Fields 1 to 4 of an end record, over the start of an output.

@@ -4,7 +4,7 @@ use mathlib.Core.Path.{_≡_, refl, sym, ap, _∙_}
 use mathlib.Core.List.{List}
 use native.Mathlib.Omega.{arith}
 use lib.ListN.{length, take, drop}
-use Rattle.run_loop.proofs.Records.{part-is}
+use Rattle.rules.proofs.Records.{part-is}
 use Rattle.run_loop.proofs.Loop.{At, at-start, at-next, at-last, keys-last, figures-all, long, room, stopped, told, keyed, accepted, not-accepted}
 use Rattle.run_loop.proofs.run_over.Statement.{statement}
 use Rattle.run_loop.proofs.run_over.Tie as tie

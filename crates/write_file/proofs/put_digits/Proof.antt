@@ -10,7 +10,7 @@ use Rattle.write_file.proofs.put_digits.Statement.{statement}
 use Rattle.write_file.proofs.put_digits.Tie as tie
 use Rattle.write_file.proofs.put_digits.Reads as reads
 use Rattle.write_file.proofs.put_digits.Lts as lts
-use Rattle.fields.proofs.writing.put_number.Reads as put-number-reads
+use Rattle.fields.proofs.put_number.Reads as put-number-reads
 
 add-end : tie.Need-add-end
 add-end c = search needs

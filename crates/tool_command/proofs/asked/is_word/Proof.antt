@@ -7,7 +7,7 @@ use Rattle.tool_command.proofs.asked.is_word.Statement.{statement}
 use Rattle.tool_command.proofs.asked.is_word.Tie as tie
 use Rattle.tool_command.proofs.asked.is_word.Reads as reads
 use Rattle.tool_command.proofs.asked.is_word.Lts as lts
-use Rattle.fields.proofs.texts.same_bytes.Reads as same-bytes-reads
+use Rattle.field_bytes.proofs.texts.same_bytes.Reads as same-bytes-reads
 
 returns : tie.Need-returns
 returns c = sym (other-length _ _ (c .if1 .taken))

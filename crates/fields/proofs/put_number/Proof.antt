@@ -6,10 +6,10 @@ use native.Mathlib.Omega.{arith}
 use lib.ListN.{length, drop, length-set, drop-of-length-le}
 use Rattle.field_digits.specs.Numbers.{written}
 use Rattle.field_digits.proofs.Values.{written-length, rest-next, places-next}
-use Rattle.fields.proofs.writing.put_number.Statement.{statement}
-use Rattle.fields.proofs.writing.put_number.Tie as tie
-use Rattle.fields.proofs.writing.put_number.Reads as reads
-use Rattle.fields.proofs.writing.put_number.Lts as lts
+use Rattle.fields.proofs.put_number.Statement.{statement}
+use Rattle.fields.proofs.put_number.Tie as tie
+use Rattle.fields.proofs.put_number.Reads as reads
+use Rattle.fields.proofs.put_number.Lts as lts
 
 abbrev Inv-loop : tie.InvT-loop
 Inv-loop out₀ n i₀ rest₀ out i rest = (length out ≡ length out₀) × (i ≤ length out₀) × (rest ≡ n / 10 ^ (length out₀ - i)) × (drop i out ≡ drop i (written (length out₀) n))

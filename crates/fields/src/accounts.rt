@@ -1,3 +1,0 @@
-// Account numbers.
-
-pub use field_accounts::Account;

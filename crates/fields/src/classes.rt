@@ -1,3 +1,0 @@
-// Classes of bytes.
-
-pub use field_bytes::classes::Class;

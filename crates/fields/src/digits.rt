@@ -1,4 +1,0 @@
-// A field of digits as the number that it writes.
-
-pub use field_digits::Digits;
-pub use field_digits::number;

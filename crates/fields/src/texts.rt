@@ -1,3 +1,0 @@
-// A field that has to be one fixed text.
-
-pub use field_bytes::texts::same_bytes;
