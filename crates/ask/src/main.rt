@@ -3,12 +3,18 @@
 use field_digits::Digits;
 use libc::STDIN_FILENO;
 use libc::STDOUT_FILENO;
+use limits::RECORD_BYTES;
+use rules::Refusal;
+use rules::Verdict;
+
+// The line of seven bytes, and after it at most 800 records.
+const MOST: usize = 7 + 800 * RECORD_BYTES;
 
 fn no_day() {
-    program_lines::print_check(check_file::refuse(1));
+    program_lines::print_check(Verdict::Refused(Refusal::whole(1)));
 }
 
-// All that came: the line of seven bytes, and behind it at most 64,800.
+// All that came, as far as it is read.
 fn answer(all: &[u8]) {
     if all.len() < 7 {
         no_day();
@@ -22,7 +28,7 @@ fn answer(all: &[u8]) {
         no_day();
         return;
     };
-    if 64807 < all.len() {
+    if MOST < all.len() {
         io::write_all(STDOUT_FILENO, b"too long\n");
         return;
     }
@@ -30,7 +36,7 @@ fn answer(all: &[u8]) {
 }
 
 fn main() {
-    let mut buffer = [0u8; 64808];
+    let mut buffer = [0u8; MOST + 1];
     let n = io::read_full(STDIN_FILENO, &mut buffer);
     answer(&buffer[..n]);
 }

@@ -14,7 +14,7 @@ use Rattle.dates.specs.declared.Window.{Window}
 use Rattle.dates.specs.declared.Opening.{Opening}
 use Rattle.dates.specs.declared.Opening.the-variants.{Open, NoDay}
 use Rattle.rules.specs.Growth.{start}
-use Rattle.limits.specs.Limits.{mostRecords}
+use Rattle.limits.specs.Limits.{recordBytes, mostRecords}
 use Rattle.rules.specs.Refusals.{refused}
 use Rattle.rules.specs.Run.{run, recordsOf, badLength, judge, onWindow, checkOf}
 use Rattle.rules.specs.declared.Mode.the-variants.{File}
@@ -22,7 +22,7 @@ use Rattle.figures.specs.declared.totals.Totals.{Totals}
 use Rattle.rules.specs.declared.Refusal.{Refusal}
 use Rattle.rules.specs.declared.Verdict.{Verdict}
 use Rattle.rules.specs.declared.Verdict.the-variants.{Accepted, Refused}
-use Rattle.run_loop.specs.Kept.{Left}
+use Rattle.run_loop.specs.Left.{Left}
 use native.Mathlib.Omega.{arith}
 
 module _ (day : ProcessDay) (b : List ℕ) (o : Opening) (opened : o ≡ windowOf day) where
@@ -40,13 +40,13 @@ module _ (w : Window) (b : List ℕ) (bad : Bool) (e : bad ≡ badLength b) wher
   wrong-length h = rw (sym e ∙ h)
 
   module _ (even : bad ≡ false) where
-    pub too-many : mostRecords < length b / 81 → refused 3 0 0 0 ≡ judge w b
+    pub too-many : mostRecords < length b / recordBytes → refused 3 0 0 0 ≡ judge w b
     unfolding judge
-    too-many h = rw (sym e ∙ even, lt-leb (length b / 81) mostRecords h)
+    too-many h = rw (sym e ∙ even, lt-leb (length b / recordBytes) mostRecords h)
 
-    pub in-turn : length b / 81 ≤ mostRecords → run File w 0 start [] (recordsOf b) ≡ judge w b
+    pub in-turn : length b / recordBytes ≤ mostRecords → run File w 0 start [] (recordsOf b) ≡ judge w b
     unfolding judge
-    in-turn h = rw (sym e ∙ even, le-leb (length b / 81) mostRecords h)
+    in-turn h = rw (sym e ∙ even, le-leb (length b / recordBytes) mostRecords h)
 
 -- a refusal has no figures
 no-figures : (v : Verdict) (n : ℕ) (t : Totals) → v ≡ refused n 0 0 0 → v ≡ Accepted t → ⊥
@@ -56,5 +56,5 @@ no-figures v n t e q = refused-apart _ t (sym e ∙ q)
     refused-apart x t z = let y : _≡_ {A = ℕ} 0 1 = cc in omega arith
 
 -- and leaves nothing that counts
-pub leaves-none : (b kept figures : List ℕ) (v : Verdict) (n : ℕ) → v ≡ refused n 0 0 0 → Left b kept figures v
-leaves-none b kept figures v n e = record { found = λ t q. absurd (no-figures v n t e q); figured = λ t q. absurd (no-figures v n t e q) }
+pub leaves-none : (b keys figures : List ℕ) (v : Verdict) (n : ℕ) → v ≡ refused n 0 0 0 → Left b keys figures v
+leaves-none b keys figures v n e = record { found = λ t q. absurd (no-figures v n t e q); figured = λ t q. absurd (no-figures v n t e q) }

@@ -2,12 +2,17 @@
 
 ghost use mathlib.Core.Path.{_≡_};
 ghost use lib.ListN.{length};
+ghost use Rattle.limits.specs.Limits.{mostAssignments};
+ghost use Rattle.operations.specs.Promises.{CheckPromise};
 ghost use Rattle.rules.specs.Refusals.{refused};
 ghost use Rattle.rules.specs.Run.{badLength, judge, checkOf};
-ghost use Rattle.run_loop.specs.Kept.{Left};
+ghost use Rattle.run_loop.specs.Left.{Left};
 use dates::Opening;
 use dates::ProcessDay;
 use dates::Window;
+use limits::MOST_ASSIGNMENTS;
+use limits::MOST_RECORDS;
+use limits::RECORD_BYTES;
 use rules::Mode;
 use rules::Refusal;
 use rules::Verdict;
@@ -16,12 +21,7 @@ use rules::Verdict;
 pub fn refuse(number: u8) -> Verdict
     ensures { λ x. ⌜ x ≡ refused number 0 0 0 ⌝ }
 {
-    Verdict::Refused(Refusal {
-        number,
-        operand: 0,
-        record: 0,
-        field: 0,
-    })
+    Verdict::Refused(Refusal::whole(number))
 }
 
 // Nothing at all, or no multiple of 81 bytes.
@@ -29,39 +29,39 @@ pub fn bad_length(bytes: &[u8]) -> bool
     ensures { λ x. ⌜ x ≡ badLength (now (bytes .entry)) ⌝ }
 {
     let len = bytes.len();
-    (len == 0) | (len % 81 != 0)
+    (len == 0) | (len % RECORD_BYTES != 0)
 }
 
 // On a process day that is one: the length, the number of records, then the records in turn. An accepted file leaves its keys, and where there is room its figures.
-pub fn judge(w: Window, file: &[u8], kept: &mut [u64], figures: &mut [u64]) -> Verdict
-    requires { ⌜ length (now kept) ≡ 500 ⌝ }
-    ensures { λ x. ⌜ (x ≡ judge w (now (file .entry))) × Left (now (file .entry)) (now (kept .exit)) (now (figures .exit)) x ⌝ }
+pub fn judge(w: Window, file: &[u8], keys: &mut [u64], figures: &mut [u64]) -> Verdict
+    requires { ⌜ length (now keys) ≡ mostAssignments ⌝ }
+    ensures { λ x. ⌜ (x ≡ judge w (now (file .entry))) × Left (now (file .entry)) (now (keys .exit)) (now (figures .exit)) x ⌝ }
 {
     if bad_length(file) {
         return refuse(2);
     }
-    if 200000 < file.len() / 81 {
+    if MOST_RECORDS < file.len() / RECORD_BYTES {
         return refuse(3);
     }
-    run_loop::run_over(Mode::File, w, file, kept, figures)
+    run_loop::run_over(Mode::File, w, file, keys, figures)
 }
 
 // Accepted with the figures of its records, or refused for its first fault; leaves what judging leaves.
-pub fn check_into(day: ProcessDay, file: &[u8], kept: &mut [u64], figures: &mut [u64]) -> Verdict
-    requires { ⌜ length (now kept) ≡ 500 ⌝ }
-    ensures { λ x. ⌜ (x ≡ checkOf day (now (file .entry))) × Left (now (file .entry)) (now (kept .exit)) (now (figures .exit)) x ⌝ }
+pub fn check_into(day: ProcessDay, file: &[u8], keys: &mut [u64], figures: &mut [u64]) -> Verdict
+    requires { ⌜ length (now keys) ≡ mostAssignments ⌝ }
+    ensures { λ x. ⌜ (x ≡ checkOf day (now (file .entry))) × Left (now (file .entry)) (now (keys .exit)) (now (figures .exit)) x ⌝ }
 {
     let Opening::Open(w) = day.window() else {
         return refuse(1);
     };
-    judge(w, file, kept, figures)
+    judge(w, file, keys, figures)
 }
 
-// Accepted with the figures of its records, or refused for its first fault.
+// Accepted with the figures of its records, or refused for its first fault. No slot is lent for figures: none are wanted.
 pub fn check(day: ProcessDay, file: &[u8]) -> Verdict
-    ensures { λ x. ⌜ x ≡ checkOf day (now (file .entry)) ⌝ }
+    ensures { λ x. ⌜ CheckPromise day (now (file .entry)) x ⌝ }
 {
-    let mut kept = [0u64; 500];
-    let mut figures = [0u64; 1];
-    check_into(day, file, &mut kept, &mut figures)
+    let mut keys = [0u64; MOST_ASSIGNMENTS];
+    let mut figures = [0u64; 0];
+    check_into(day, file, &mut keys, &mut figures)
 }

@@ -15,15 +15,15 @@ use Rattle.laws.proofs.EndsPut.{gains-records, gains-openings}
 use Rattle.laws.proofs.Sound.{met}
 use Rattle.operations.specs.Closing.{openings, toWrite, closedFigures, onAccepted, weigh}
 use Rattle.rules.specs.Growth.{start, gains}
-use Rattle.limits.specs.Limits.{mostRecords}
+use Rattle.limits.specs.Limits.{recordBytes, mostRecords}
 use Rattle.rules.specs.Refusals.{refused}
 use Rattle.rules.specs.Run.{run, recordsOf, badLength}
 use Rattle.rules.specs.declared.Mode.the-variants.{Draft}
 use Rattle.rules.specs.declared.Refusal.{Refusal}
 use Rattle.rules.specs.declared.Verdict.{Verdict}
 use Rattle.rules.specs.declared.Verdict.the-variants.{Accepted, Refused}
-use Rattle.run_loop.specs.Kept.{Left}
-use Rattle.run_sums.proofs.Held.{held}
+use Rattle.run_loop.specs.Left.{Left}
+use Rattle.run_figures.proofs.Held.{held}
 use Rattle.close_weigh.specs.Leaves.{CanClose, LeftBy}
 use Rattle.close_weigh.proofs.Counting.{openings-few}
 
@@ -50,15 +50,15 @@ module _ (w : Window) (d : List ℕ) (bad : Bool) (e : bad ≡ badLength d) wher
     in-turn h = rw (sym e ∙ even, le-leb (toWrite (recordsOf d)) mostRecords h)
 
     -- so many records that the 89 alone is one too many
-    pub full : mostRecords ≤ length d / 81 → refused 3 0 0 0 ≡ weigh w d
+    pub full : mostRecords ≤ length d / recordBytes → refused 3 0 0 0 ≡ weigh w d
     full h = too-many (omega (arith, record-count d))
 
     -- a draft that is refused: its records 20 are counted
     module _ (n : ℕ) (o : n ≡ openings (recordsOf d)) where
-      pub too-many-opened : mostRecords < length d / 81 + n + 1 → refused 3 0 0 0 ≡ weigh w d
+      pub too-many-opened : mostRecords < length d / recordBytes + n + 1 → refused 3 0 0 0 ≡ weigh w d
       too-many-opened h = too-many (omega (arith, record-count d, o))
 
-      pub on-refused : length d / 81 + n + 1 ≤ mostRecords → (x : Refusal) → run Draft w 0 start [] (recordsOf d) ≡ Refused x → Refused x ≡ weigh w d
+      pub on-refused : length d / recordBytes + n + 1 ≤ mostRecords → (x : Refusal) → run Draft w 0 start [] (recordsOf d) ≡ Refused x → Refused x ≡ weigh w d
       on-refused h x q = sym (ap (λ (v : Verdict). onAccepted v (λ t. Accepted (closedFigures t))) q) ∙ in-turn (omega (arith, record-count d, o))
 
     -- one that is accepted: it has as many as assignments
@@ -75,14 +75,14 @@ module _ (w : Window) (d : List ℕ) (bad : Bool) (e : bad ≡ badLength d) wher
       on-accepted h = ap Accepted i ∙ sym (ap (λ (v : Verdict). onAccepted v (λ t. Accepted (closedFigures t))) q) ∙ in-turn (omega (arith, written))
 
 -- its figures leave room for the end records
-pub can-close : (w : Window) (d : List ℕ) → length d / 81 < 200000 → (t : Totals) → run Draft w 0 start [] (recordsOf d) ≡ Accepted t → CanClose t
+pub can-close : (w : Window) (d : List ℕ) → length d / recordBytes < mostRecords → (t : Totals) → run Draft w 0 start [] (recordsOf d) ≡ Accepted t → CanClose t
 can-close w d few t q =
     let r = draft-figures w d t q in
     record { records = omega (arith, r .0, record-count d); assignments = omega (arith, r .1, record-count d, openings-few (recordsOf d)) }
 
 -- ---- the figures that are left
-pub leaves-none : (d kept : List ℕ) (v : Verdict) (x : Refusal) → v ≡ Refused x → LeftBy d kept v
-leaves-none d kept v x e = record { figures = λ t q. absurd (let z : _≡_ {A = ℕ} 0 1 = cc in omega arith) }
+pub leaves-none : (d figures : List ℕ) (x : Refusal) → LeftBy d figures (Refused x)
+leaves-none d figures x = record { left = λ t q. absurd (let z : _≡_ {A = ℕ} 0 1 = cc in omega arith) }
 
-pub leaves-figures : (d keys kept : List ℕ) (v : Verdict) (t : Totals) → Left d keys kept v → v ≡ Accepted t → (x : Verdict) → LeftBy d kept x
-leaves-figures d keys kept v t l e x = record { figures = λ u q room. held kept (5 * (t .assignments .0 + 1)) _ (l .figured t e room) }
+pub leaves-figures : (d keys figures : List ℕ) (v : Verdict) (t : Totals) → Left d keys figures v → v ≡ Accepted t → (x : Verdict) → LeftBy d figures x
+leaves-figures d keys figures v t l e x = record { left = λ u q room. held figures (5 * (t .assignments .0 + 1)) _ (l .figured t e room) }

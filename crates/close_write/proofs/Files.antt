@@ -15,13 +15,13 @@ use Rattle.dates.specs.Dates.{date, earlier}
 use Rattle.dates.specs.declared.Date.{Date}
 use Rattle.dates.proofs.Laws.{earlier-comm, none-earlier}
 use Rattle.figures.specs.Figures.{amount, count}
-use Rattle.figures.specs.Totals.{none, _⊕_, oneRecord, oneAssignment, _⊞_, undated, Room}
+use Rattle.figures.specs.Totals.{none, _⊕_, oneRecord, oneAssignment, _⊞_, undated, withRecords, Room}
 use Rattle.figures.specs.declared.totals.Totals.{Totals}
 use Rattle.figures.specs.declared.totals.AssignmentTotals.{AssignmentTotals}
 use Rattle.figures.proofs.Laws.{⊕-none, none-⊕}
 use Rattle.run_growth.specs.Bounds.{Bounded}
 use Rattle.laws.specs.Meets.{gains, turns, Meets}
-use Rattle.laws.proofs.Bytes.{whole, record-count}
+use Rattle.laws.proofs.Bytes.{whole, record-count, laid}
 use Rattle.laws.proofs.Made.{bytes-join}
 use Rattle.layout.specs.Rows.{member, AllHold}
 use Rattle.operations.specs.Ends.{endRecord, end88}
@@ -30,24 +30,24 @@ use Rattle.services.specs.Services.{codeFor, serviceFor}
 use Rattle.rules.specs.Codes.{serviceCode, recordCode, kindFor, kindOf, numberOfKind}
 use Rattle.rules.specs.Growth.{gainFor, gain, turnFor, turn, after, start, nothingYet, opened}
 use Rattle.rules.specs.Order.{mayFollow, mayEnd}
-use Rattle.rules.specs.Run.{chunks, recordsOf, badLength}
+use Rattle.rules.specs.Run.{chunks, recordsOf, recordAt, badLength}
 use Rattle.rules.specs.declared.Assignment.{Assignment}
 use Rattle.rules.specs.declared.Kind.{Kind}
 use Rattle.rules.specs.declared.Kind.the-variants.{R10, R20, R30, R31, R40, R49, R50, R88, R89, Other}
 use Rattle.rules.specs.declared.Mode.the-variants.{Draft}
 use Rattle.rules.specs.declared.State.{State}
 use Rattle.rules.proofs.Codes.{twenty}
-use Rattle.run_loop.specs.Figured.{blocks, figuresIn}
-use Rattle.run_loop.proofs.Figures.{blocks-on, blocks-open}
+use Rattle.run_figures.specs.Blocks.{blocks, figuresFrom}
+use Rattle.run_figures.proofs.Blocks.{blocks-on, blocks-open}
 use Rattle.run_loop.proofs.Loop.{small-start}
-use Rattle.rules.proofs.Records.{rest-start, rest-end, part-is}
+use Rattle.rules.proofs.Records.{rest-start, rest-end}
 use Rattle.write_file.proofs.Wrote.{Wrote, at-first, behind, told, wrote-length, room-behind, end-length}
-use Rattle.close_blocks.specs.Block.{recordsFrom, between, recordAt, state, Ahead, behindEnd, Block}
+use Rattle.close_write.specs.Block.{recordsFrom, between, state, Ahead, behindEnd, Block}
 use Rattle.run_loop.proofs.Keys.{twenty-code}
-use Rattle.close_blocks.proofs.Walk.{next-of, laid, plain, holds, step-on, step-turned, Ending, ending, handed}
-use Rattle.run_sums.specs.Sums.{entry, Legible, Holding}
-use Rattle.run_sums.proofs.Held.{Small, AllSmall, entry-is, legible, held-next}
-use Rattle.run_sums.proofs.Assignments.{AllListed, all-listed, gains-bounded, figures-of}
+use Rattle.close_write.proofs.Walk.{next-of, plain, holds, step-on, step-turned, Ending, ending}
+use Rattle.run_figures.specs.Slots.{entry, Legible, Holding}
+use Rattle.run_figures.proofs.Held.{Small, AllSmall, entry-is, legible, held-next}
+use Rattle.run_figures.proofs.Assignments.{AllListed, all-listed, gains-bounded, figures-of}
 use Rattle.close_write.specs.Weighed.{span, endOf, InDraft, Weighed}
 
 -- ---- records and bytes
@@ -59,14 +59,13 @@ span-is k n d h m =
 pub span-length : (k n : ℕ) (d : List ℕ) → k ≤ n → n ≤ length d / 81 → length (span k n d) ≡ 81 * n - 81 * k
 span-length k n d h m = length-take (81 * n - 81 * k) (drop (81 * k) d) ∙ simp length-drop (omega arith)
 
--- ---- figures
+-- ---- totals
 same-figures : (x y : Totals) → x .assignments .0 ≡ y .assignments .0 → x .transactions .0 ≡ y .transactions .0 → x .records .0 ≡ y .records .0 → x .sum .0 ≡ y .sum .0 → x .first ≡ y .first → x ≡ y
 same-figures x y a t r s f = λ i. record { assignments = count (a i); transactions = count (t i); records = count (r i); sum = amount (s i); first = f i }
 
--- the figures of the file so far: those of the draft so far, with an 88 for each assignment
+-- the totals of the file so far: those of the draft so far, with an 88 for each assignment
 abbrev pub sofar : Totals → Totals
-sofar t =
-    record { assignments = t .assignments; transactions = t .transactions; records = count (t .records .0 + t .assignments .0); sum = t .sum; first = t .first }
+sofar t = withRecords (t .assignments .0) t
 
 no-date : (d : Date) → earlier d (date 0) ≡ d
 no-date d = earlier-comm d (date 0) ∙ none-earlier d
@@ -154,7 +153,7 @@ ten-written r s rs e k =
     ∙ ap₂ (λ (i j : Kind). s ∷ withEnds (state ((none ⊕ gainFor i r) ⊕ gainFor j s) (turnFor j s (turnFor i r (nothingYet Other)))) rs) e k
     ∙ ap (λ (f : Totals). s ∷ withEnds (state (f ⊕ oneAssignment) (opened (serviceFor (serviceCode s)))) rs) (none-⊕ oneRecord))
 
-module _ (d : List ℕ) (figures : Totals) (v : Weighed d figures) where
+module _ (d : List ℕ) (totals : Totals) (v : Weighed d totals) where
   n>0 : 0 < length d / 81
   n>0 = some-records d (v .lengthy)
 
@@ -164,7 +163,7 @@ module _ (d : List ℕ) (figures : Totals) (v : Weighed d figures) where
       record {
         window = v .window;
         file = none;
-        kept = [];
+        keys = [];
         assignment = nothingYet Other;
         counted = refl;
         meets = subst (Meets Draft (v .window) none [] (nothingYet Other)) (sym (rest-start d (length d / 81))) (v .meets);
@@ -219,42 +218,42 @@ module _ (d : List ℕ) (figures : Totals) (v : Weighed d figures) where
       ∙ ap₂ (λ (f : Totals) (x : List (List ℕ)). r ++ bytesOf (behindEnd (sofar f) x)) (sym (ten-gained r header)) (sym i)
 
 -- ---- the figures that the run left, from the k-th record of the draft on
-pub record Reading (d kept : List ℕ) (j k : ℕ) : Type 0 where
-  pub held : Holding kept j (figuresIn (recordsFrom k d))
-  pub small : AllSmall (figuresIn (recordsFrom k d))
+pub record Reading (d figures : List ℕ) (j k : ℕ) : Type 0 where
+  pub held : Holding figures j (figuresFrom (recordsFrom k d))
+  pub small : AllSmall (figuresFrom (recordsFrom k d))
 
-pub reading-start : (d : List ℕ) (figures : Totals) (kept : List ℕ) → Weighed d figures → Holding kept 0 (blocks (start .assignment) (recordsOf d)) → Reading d kept 1 1
-reading-start d figures kept v h =
+pub reading-start : (d : List ℕ) (totals : Totals) (figures : List ℕ) → Weighed d totals → Holding figures 0 (blocks (start .assignment) (recordsOf d)) → Reading d figures 1 1
+reading-start d totals figures v h =
     let r = recordAt 0 d in
     let s = recordAt 1 d in
-    let a = behind-header d figures v in
-    let n = next-of d 1 (more-records d figures v) in
-    let k : kindOf s ≡ R20 = twenty (recordCode s) (eqb-true (recordCode s) 20 (first-opens d figures v)) in
-    let b : blocks (start .assignment) (recordsOf d) ≡ turn r (start .assignment) .totals ∷ figuresIn (recordsFrom 1 d) =
-    ap (blocks (start .assignment)) (records-are d figures v) ∙ blocks-on (start .assignment) r (recordsFrom 1 d) (λ e. ten-not-twenty (sym e ∙ header d figures v))
-    ∙ ap (blocks (turn r (start .assignment))) n ∙ blocks-open (turn r (start .assignment)) s (recordsFrom 2 d) k ∙ ap (λ (x : List (List ℕ)). turn r (start .assignment) .totals ∷ figuresIn x) (sym n) in
-    let l : AllListed (s ∷ recordsFrom 2 d) = subst AllListed n (all-listed Draft (a .window) (a .file) (a .kept) (a .assignment) (recordsFrom 1 d) (λ e. ten-not-other (sym (ap (λ (x : Assignment). x .last) (turned d figures v)) ∙ e)) (a .meets)) in
-    let g = gains-bounded Draft (a .window) (a .file) (a .kept) (a .assignment) (recordsFrom 1 d) (a .small .file .sum) (omega (arith, a .small .file .assignments)) (omega (arith, record-count d, ap length (records-are d figures v), v .few)) (a .meets) in
+    let a = behind-header d totals v in
+    let n = next-of d 1 (more-records d totals v) in
+    let k : kindOf s ≡ R20 = twenty (recordCode s) (eqb-true (recordCode s) 20 (first-opens d totals v)) in
+    let b : blocks (start .assignment) (recordsOf d) ≡ turn r (start .assignment) .totals ∷ figuresFrom (recordsFrom 1 d) =
+    ap (blocks (start .assignment)) (records-are d totals v) ∙ blocks-on (start .assignment) r (recordsFrom 1 d) (λ e. ten-not-twenty (sym e ∙ header d totals v))
+    ∙ ap (blocks (turn r (start .assignment))) n ∙ blocks-open (turn r (start .assignment)) s (recordsFrom 2 d) k ∙ ap (λ (x : List (List ℕ)). turn r (start .assignment) .totals ∷ figuresFrom x) (sym n) in
+    let l : AllListed (s ∷ recordsFrom 2 d) = subst AllListed n (all-listed Draft (a .window) (a .file) (a .keys) (a .assignment) (recordsFrom 1 d) (λ e. ten-not-other (sym (ap (λ (x : Assignment). x .last) (turned d totals v)) ∙ e)) (a .meets)) in
+    let g = gains-bounded Draft (a .window) (a .file) (a .keys) (a .assignment) (recordsFrom 1 d) (a .small .file .sum) (omega (arith, a .small .file .assignments)) (omega (arith, record-count d, ap length (records-are d totals v), v .few)) (a .meets) in
     record {
-      held = held-next kept 0 _ _ (subst (Holding kept 0) b h);
-      small = subst (λ (x : List (List ℕ)). AllSmall (figuresIn x)) (sym n) (figures-of s (recordsFrom 2 d) k l .small (subst (λ (x : List (List ℕ)). Bounded 200000 (gains x)) n g));
+      held = held-next figures 0 _ _ (subst (Holding figures 0) b h);
+      small = subst (λ (x : List (List ℕ)). AllSmall (figuresFrom x)) (sym n) (figures-of s (recordsFrom 2 d) k l .small (subst (λ (x : List (List ℕ)). Bounded 200000 (gains x)) n g));
     }
 
 -- the assignment at hand, as the code comes to it, and those behind it
-module _ (d kept : List ℕ) (j k : ℕ) (v : Reading d kept j k) (e : Ending d k) where
-  now-held : Holding kept j (e .block .own ∷ figuresIn (recordsFrom (e .next) d))
-  now-held = subst (Holding kept j) (e .block .left) (v .held)
+module _ (d figures : List ℕ) (j k : ℕ) (v : Reading d figures j k) (e : Ending d k) where
+  now-held : Holding figures j (e .block .own ∷ figuresFrom (recordsFrom (e .next) d))
+  now-held = subst (Holding figures j) (e .block .left) (v .held)
 
-  now-small : Small (e .block .own) × AllSmall (figuresIn (recordsFrom (e .next) d))
+  now-small : Small (e .block .own) × AllSmall (figuresFrom (recordsFrom (e .next) d))
   unfolding AllSmall
   now-small = subst AllSmall (e .block .left) (v .small)
 
-  pub may-read : Legible kept j
-  may-read = legible kept j _ _ now-held (now-small .0)
+  pub may-read : Legible figures j
+  may-read = legible figures j _ _ now-held (now-small .0)
 
-  module _ (x : AssignmentTotals) (q : x ≡ entry kept j) where
+  module _ (x : AssignmentTotals) (q : x ≡ entry figures j) where
     own-is : x ≡ e .block .own
-    own-is = q ∙ entry-is kept j _ _ now-held (now-small .0 .single)
+    own-is = q ∙ entry-is figures j _ _ now-held (now-small .0 .single)
 
     pub takes-end : Room (x .totals) oneRecord
     takes-end =
@@ -269,8 +268,8 @@ module _ (d kept : List ℕ) (j k : ℕ) (v : Reading d kept j k) (e : Ending d 
         let i : e .totals ≡ y = e .block .ended ∙ ap (λ (z : AssignmentTotals). z ⊞ undated oneRecord) (sym own-is) ∙ sym p in
         subst (λ (n : ℕ). Block d k n y) next-is (subst (Block d k (e .next)) i (e .block))
 
-    pub reading-next : Reading d kept (j + 1) (k + x .totals .records .0)
-    reading-next = subst (Reading d kept (j + 1)) next-is record { held = held-next kept j _ _ now-held; small = now-small .1 }
+    pub reading-next : Reading d figures (j + 1) (k + x .totals .records .0)
+    reading-next = subst (Reading d figures (j + 1)) next-is record { held = held-next figures j _ _ now-held; small = now-small .1 }
 
 -- ---- the writing: the file is written up to the k-th record of the draft, and at bytes long so far
 pub record Going (d before out : List ℕ) (at k : ℕ) : Type 0 where
@@ -288,35 +287,35 @@ within-room : (x a b c : List ℕ) (n : ℕ) → x ≡ a ++ (b ++ c) → length 
 within-room x a b c n e h = omega (arith, ap length e ∙ length-append a (b ++ c), length-append b c)
 
 -- behind the 10, which lies over the start of the output already
-pub going-start : (d : List ℕ) (figures : Totals) (before out : List ℕ) → Weighed d figures → length (closedFile d) ≤ length before → out ≡ span 0 1 d ++ drop (length (span 0 1 d)) before → Going d out out 81 1
-going-start d figures before out v room q =
+pub going-start : (d : List ℕ) (totals : Totals) (before out : List ℕ) → Weighed d totals → length (closedFile d) ≤ length before → out ≡ span 0 1 d ++ drop (length (span 0 1 d)) before → Going d out out 81 1
+going-start d totals before out v room q =
     let s = span 0 1 d in
-    let l = span-length 0 1 d (omega arith) (omega (arith, more-records d figures v)) in
-    let b = begins d figures v in
+    let l = span-length 0 1 d (omega arith) (omega (arith, more-records d totals v)) in
+    let b = begins d totals v in
     let f = within-room _ [] s _ (length before) b room in
     let w = at-first s before out (length s) refl (omega (arith, f)) q in
     record {
       written = s;
       wrote = at-first s out out (length s) refl (omega (arith, f, wrote-length s before out w)) (q ∙ ap (λ (x : List ℕ). s ++ x) (sym (ap (drop (length s)) q ∙ drop-append-seam s (drop (length s) before))));
       place = sym l;
-      most = omega (arith, more-records d figures v);
+      most = omega (arith, more-records d totals v);
       few = v .few;
-      ahead = behind-header d figures v;
-      opener = λ _. first-opens d figures v;
+      ahead = behind-header d totals v;
+      opener = λ _. first-opens d totals v;
       all = b;
       room = omega (arith, room, wrote-length s before out w);
     }
 
-pub start-fits : (d : List ℕ) (figures : Totals) (before : List ℕ) → Weighed d figures → length (closedFile d) ≤ length before → length (span 0 1 d) ≤ length before
-start-fits d figures before v room = omega (arith, within-room _ [] (span 0 1 d) _ (length before) (begins d figures v) room)
+pub start-fits : (d : List ℕ) (totals : Totals) (before : List ℕ) → Weighed d totals → length (closedFile d) ≤ length before → length (span 0 1 d) ≤ length before
+start-fits d totals before v room = omega (arith, within-room _ [] (span 0 1 d) _ (length before) (begins d totals v) room)
 
 -- and the whole lies over it in the end
-pub over-start : (d : List ℕ) (figures : Totals) (before out last : List ℕ) → Weighed d figures → out ≡ span 0 1 d ++ drop (length (span 0 1 d)) before
+pub over-start : (d : List ℕ) (totals : Totals) (before out last : List ℕ) → Weighed d totals → out ≡ span 0 1 d ++ drop (length (span 0 1 d)) before
     → last ≡ closedFile d ++ drop (length (closedFile d)) out → last ≡ closedFile d ++ drop (length (closedFile d)) before
-over-start d figures before out last v q e =
+over-start d totals before out last v q e =
     let s = span 0 1 d in
     let n = length (closedFile d) in
-    let more : length s ≤ n = omega (arith, ap length (begins d figures v) ∙ length-append s _) in
+    let more : length s ≤ n = omega (arith, ap length (begins d totals v) ∙ length-append s _) in
     let i : n ≡ length s + (n - length s) = omega arith in
     e ∙ ap (λ (x : List ℕ). closedFile d ++ x) (ap (λ (x : ℕ). drop x out) i ∙ ap (drop (length s + (n - length s))) q ∙ drop-append-add s (drop (length s) before) (n - length s)
     ∙ drop-drop (n - length s) (length s) before ∙ ap (λ (x : ℕ). drop x before) (sym i))
@@ -372,33 +371,33 @@ module _ (d before out : List ℕ) (at k : ℕ) (g : Going d before out at k) wh
         }
 
   -- behind the last assignment
-  module _ (h : length d / 81 ≤ k) (figures : Totals) (v : Weighed d figures) where
-    last-bytes : closedFile d ≡ g .written ++ endRecord 0 89 figures (date 0)
+  module _ (h : length d / 81 ≤ k) (totals : Totals) (v : Weighed d totals) where
+    last-bytes : closedFile d ≡ g .written ++ endRecord 0 89 totals (date 0)
     unfolding bytesOf behindEnd
     last-bytes =
         let e : k ≡ length d / 81 = omega (arith, g .most) in
-        let f : sofar (gains (chunks k d)) ⊕ oneRecord ≡ figures =
-        all-told (gains (chunks k d)) ∙ ap (λ (x : ℕ). closedFigures (gains (chunks x d))) e ∙ sym (v .figured) in
+        let f : sofar (gains (chunks k d)) ⊕ oneRecord ≡ totals =
+        all-told (gains (chunks k d)) ∙ ap (λ (x : ℕ). closedFigures (gains (chunks x d))) e ∙ sym (v .counted) in
         g .all
         ∙ ap (λ (x : List (List ℕ)). g .written ++ bytesOf (behindEnd (sofar (gains (chunks k d))) x)) (rest-end d (length d / 81) k e)
         ∙ ap (λ (x : Totals). g .written ++ (endRecord 0 89 x (date 0) ++ [])) f
-        ∙ ap (λ (x : List ℕ). g .written ++ x) (append-nil (endRecord 0 89 figures (date 0)))
+        ∙ ap (λ (x : List ℕ). g .written ++ x) (append-nil (endRecord 0 89 totals (date 0)))
 
-    last-fits : length (g .written) + length (endRecord 0 89 figures (date 0)) ≤ length before
-    last-fits = omega (arith, g .room, ap length last-bytes ∙ length-append (g .written) (endRecord 0 89 figures (date 0)))
+    last-fits : length (g .written) + length (endRecord 0 89 totals (date 0)) ≤ length before
+    last-fits = omega (arith, g .room, ap length last-bytes ∙ length-append (g .written) (endRecord 0 89 totals (date 0)))
 
     pub last-room : 81 ≤ length (take (length out - at) (drop at out))
-    last-room = room-behind out at 81 (omega (arith, last-fits, end-length 0 89 figures (date 0), g .place, out-long))
+    last-room = room-behind out at 81 (omega (arith, last-fits, end-length 0 89 totals (date 0), g .place, out-long))
 
-    pub going-last : (last : List ℕ) → last ≡ endRecord 0 89 figures (date 0) ++ drop 81 (take (length out - at) (drop at out))
+    pub going-last : (last : List ℕ) → last ≡ endRecord 0 89 totals (date 0) ++ drop 81 (take (length out - at) (drop at out))
         → putMid at (length out - at) out last ≡ closedFile d ++ drop (length (closedFile d)) before
     going-last last q =
-        let w = behind (g .written) before out (endRecord 0 89 figures (date 0)) last at 81 (g .wrote) (g .place) (sym (end-length 0 89 figures (date 0))) last-fits q in
+        let w = behind (g .written) before out (endRecord 0 89 totals (date 0)) last at 81 (g .wrote) (g .place) (sym (end-length 0 89 totals (date 0))) last-fits q in
         told _ (closedFile d) before _ (length (closedFile d)) w (sym last-bytes) refl
 
 -- ---- an assignment and its 88, put over the start of a list
 pub assignment-put : (d before copied last : List ℕ) (k n : ℕ) (t : AssignmentTotals) → InDraft d k n → 81 * n - 81 * k + 81 ≤ length before
-    → (s : ℕ) → s ≡ codeFor (serviceFor (serviceCode (handed d k)))
+    → (s : ℕ) → s ≡ codeFor (serviceFor (serviceCode (recordAt k d)))
     → copied ≡ span k n d ++ drop (length (span k n d)) before
     → last ≡ endRecord s 88 (t .totals) (t .last) ++ drop 81 (take (length copied - (81 * n - 81 * k)) (drop (81 * n - 81 * k) copied))
     → putMid (81 * n - 81 * k) (length copied - (81 * n - 81 * k)) copied last ≡ (span k n d ++ endOf d k t) ++ drop (81 * n - 81 * k + 81) before
@@ -408,7 +407,7 @@ assignment-put d before copied last k n t i room s e p q =
     let el = end-length s 88 (t .totals) (t .last) in
     let w = at-first (span k n d) before copied (length (span k n d)) refl (omega (arith, l)) p in
     let x = behind (span k n d) before copied end last (81 * n - 81 * k) 81 w (sym l) (sym el) (omega (arith, l, el)) q in
-    let same : end ≡ endOf d k t = ap (λ (y : ℕ). endRecord y 88 (t .totals) (t .last)) (e ∙ ap (λ (r : List ℕ). codeFor (serviceFor (serviceCode r))) (part-is d k)) in
+    let same : end ≡ endOf d k t = ap (λ (y : ℕ). endRecord y 88 (t .totals) (t .last)) e in
     told _ (span k n d ++ endOf d k t) before _ (81 * n - 81 * k + 81) x (ap (λ (y : List ℕ). span k n d ++ y) same) (length-append (span k n d) (endOf d k t) ∙ ap₂ _+_ l (end-length _ 88 (t .totals) (t .last)))
 
 -- what is written over the start of a list leaves its length

@@ -1,2 +1,3 @@
-pub mod Services
+pub mod Within
+pub mod Walk
 pub mod Files

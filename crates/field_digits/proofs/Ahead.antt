@@ -7,7 +7,7 @@ use mathlib.Core.Bool.{true, false, _&&_}
 use native.Mathlib.Nat.{zero-add}
 use lib.ListN.{length, getD, take, drop}
 use Rattle.field_bytes.specs.Bytes.{every, isDigit}
-use Rattle.field_bytes.proofs.Listed.{places, listed}
+use Rattle.field_bytes.proofs.Listed.{oneByOne, listed}
 use Rattle.field_words.specs.Words.{bytesOf}
 use Rattle.field_digits.specs.Numbers.{valueFrom, value, numberOf}
 use Rattle.field_digits.specs.declared.Digits.the-variants.{Number, NotDigits}
@@ -21,7 +21,7 @@ zero-before s = refl
 
 -- a digit and a word
 pub nine : (s : List ℕ) → length s ≡ 9 → getD s 0 0 ∷ take 8 (drop 1 s) ≡ s
-unfolding places
+unfolding oneByOne
 nine s l = ap (λ (r : List ℕ). getD s 0 0 ∷ take 8 (drop 1 r)) (listed s 9 l) ∙ sym (listed s 9 l)
 
 module _ (b x : ℕ) where

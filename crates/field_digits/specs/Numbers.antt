@@ -9,14 +9,16 @@ pub use Rattle.field_words.specs.Values.{value}
 pub use Rattle.field_words.specs.Words.{pairsOf}
 use Rattle.field_digits.specs.declared.Digits.{Digits}
 use Rattle.field_digits.specs.declared.Digits.the-variants.{Number, NotDigits}
+use Rattle.field_digits.specs.declared.DigitPairs.{DigitPairs}
+use Rattle.field_digits.specs.declared.DigitPairs.the-variants.{Pairs, NoPairs}
 
 unfoldable pub numberOf : List ℕ → Digits
 numberOf s = if every isDigit s then Number (value s) else NotDigits
 
 -- what a field writes, its digits two by two
-abbrev pub paired : Digits → Digits
-paired (Number n) = Number (pairsOf n)
-paired NotDigits = NotDigits
+abbrev pub paired : Digits → DigitPairs
+paired (Number n) = Pairs (pairsOf n)
+paired NotDigits = NoPairs
 
 -- the last w digits of n, the highest first
 unfoldable pub written : ℕ → ℕ → List ℕ

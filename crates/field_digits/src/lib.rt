@@ -23,6 +23,12 @@ pub enum Digits {
     NotDigits,
 }
 
+// Six digits two by two: three numbers side by side, of sixteen bits each.
+pub enum DigitPairs {
+    Pairs(u64),
+    NoPairs,
+}
+
 // Six to nine bytes are read by words.
 pub fn number(s: &[u8]) -> Digits
     requires { ⌜ length (now s) ≤ 17 ⌝ }
@@ -65,15 +71,15 @@ fn six(s: &[u8]) -> Digits
 }
 
 // Six digits as three numbers of two, in place of the one that they write.
-pub fn pairs(s: &[u8]) -> Digits
+pub fn pairs(s: &[u8]) -> DigitPairs
     requires { ⌜ length (now s) ≡ 6 ⌝ }
     ensures { λ r. ⌜ r ≡ paired (numberOf (now (s .entry))) ⌝ }
 {
     let x = word_of_six(s);
     if !all_digits(x) {
-        return Digits::NotDigits;
+        return DigitPairs::NoPairs;
     }
-    Digits::Number(pairs_in(x))
+    DigitPairs::Pairs(pairs_in(x))
 }
 
 // One digit, and a word.

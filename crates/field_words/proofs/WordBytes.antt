@@ -10,7 +10,7 @@ use lib.ListN.{length, getD, take, drop}
 use lib.Pow.{high, low}
 use Rattle.field_bytes.specs.Bytes.{every, isDigit}
 use Rattle.field_words.specs.Words.{bytesOf}
-use Rattle.field_bytes.proofs.Listed.{places, listed}
+use Rattle.field_bytes.proofs.Listed.{oneByOne, listed}
 
 -- a number by its lowest byte and what is above it
 pub lowest : (n x b r : ℕ) → b < 256 → x ≡ r * 256 + b → bytesOf (suc n) x ≡ b ∷ bytesOf n r
@@ -40,13 +40,13 @@ above-four n x y h =
 -- the three words out of their halves
 module _ (s : List ℕ) (x y : ℕ) (h : x < 0x100000000) (e : bytesOf 4 x ≡ take 4 s) where
   pub word-of-eight : length s ≡ 8 → bytesOf 4 y ≡ take 4 (drop 4 s) → bytesOf 8 (x + y * 0x100000000) ≡ s
-  unfolding places
+  unfolding oneByOne
   word-of-eight l g =
       above-four 4 x y h ∙ ap₂ _++_ e g
       ∙ ap (λ (r : List ℕ). take 4 r ++ take 4 (drop 4 r)) (listed s 8 l) ∙ sym (listed s 8 l)
 
   pub word-of-seven : length s ≡ 7 → bytesOf 4 y ≡ take 4 (drop 3 s) → bytesOf 8 (0x30 + x * 0x100 + y / 0x100 * 0x10000000000) ≡ 48 ∷ s
-  unfolding places bytesOf
+  unfolding oneByOne bytesOf
   word-of-seven l g =
       lowest 7 (0x30 + x * 0x100 + y / 0x100 * 0x10000000000) 48 (x + y / 0x100 * 0x100000000) (lit< tt) (omega arith)
       ∙ ap (λ (r : List ℕ). 48 ∷ r)
@@ -54,7 +54,7 @@ module _ (s : List ℕ) (x y : ℕ) (h : x < 0x100000000) (e : bytesOf 4 x ≡ t
       ∙ ap (λ (r : List ℕ). take 4 r ++ drop 1 (take 4 (drop 3 r))) (listed s 7 l) ∙ sym (listed s 7 l))
 
   pub word-of-six : length s ≡ 6 → bytesOf 4 y ≡ take 4 (drop 2 s) → bytesOf 8 (0x3030 + x * 0x10000 + y / 0x10000 * 0x1000000000000) ≡ 48 ∷ 48 ∷ s
-  unfolding places bytesOf
+  unfolding oneByOne bytesOf
   word-of-six l g =
       let shifted : y / 0x10000 ≡ y / 256 / 256 = omega arith in
       lowest 7 (0x3030 + x * 0x10000 + y / 0x10000 * 0x1000000000000) 48 (0x30 + x * 0x100 + y / 0x10000 * 0x10000000000) (lit< tt) (omega arith)
@@ -76,7 +76,7 @@ shared f [] (b ∷ y) z = go (f b) (every f y) (every f (y ++ z)) (shared f [] y
 shared f (a ∷ x) y z = and-assoc (f a) (every f (x ++ y)) (every f (y ++ z)) ∙ ap (λ (t : Bool). f a && t) (shared f x y z)
 
 pub eleven : (f : ℕ → Bool) (s : List ℕ) → length s ≡ 11 → every f (take 8 s) && every f (take 8 (drop 3 s)) ≡ every f s
-unfolding places
+unfolding oneByOne
 eleven f s l =
     let at : ℕ → ℕ = λ i. getD s i 0 in
     ap (λ (r : List ℕ). every f (take 8 r) && every f (take 8 (drop 3 r))) (listed s 11 l)

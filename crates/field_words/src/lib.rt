@@ -52,7 +52,7 @@ pub fn word(s: &[u8]) -> u64
     half(&s[0..4]) + half(&s[4..8]) * 0x100000000
 }
 
-// Seven bytes behind the digit 0, by two halves that share a byte.
+// Seven bytes after the digit 0, by two halves that share a byte.
 pub fn word_of_seven(s: &[u8]) -> u64
     requires { ⌜ length (now s) ≡ 7 ⌝ }
     ensures { λ r. ⌜ bytesOf 8 r ≡ 48 ∷ now (s .entry) ⌝ }
@@ -60,7 +60,7 @@ pub fn word_of_seven(s: &[u8]) -> u64
     0x30 + half(&s[0..4]) * 0x100 + half(&s[3..7]) / 0x100 * 0x10000000000
 }
 
-// Six bytes behind two digits 0, by two halves that share two bytes.
+// Six bytes after two digits 0, by two halves that share two bytes.
 pub fn word_of_six(s: &[u8]) -> u64
     requires { ⌜ length (now s) ≡ 6 ⌝ }
     ensures { λ r. ⌜ bytesOf 8 r ≡ 48 ∷ 48 ∷ now (s .entry) ⌝ }

@@ -1,4 +1,4 @@
--- Document 01, "Field kinds", Account. Passed on from `account_numbers`.
+-- Document 01, "Field kinds", Account. Passed on from `field_accounts`.
 -- Assumes nothing.
 pub use Rattle.field_accounts.specs.Accounts.{weights, remainder, lastDigit, isRight, isNumber}
 unfoldable pub use Rattle.field_accounts.specs.Accounts.{weighted, rightDigit, judged, accountOf}

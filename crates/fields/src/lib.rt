@@ -4,6 +4,7 @@
 ghost use mathlib.Core.Path.{_≡_};
 ghost use Prim.Native.Nat.{_+_, _≤_};
 ghost use lib.ListN.{length};
+ghost use Rattle.limits.specs.Limits.{recordBytes};
 ghost use Rattle.field_bytes.specs.Bytes.{every, isZero, same, part, Inside};
 ghost use Rattle.field_bytes.specs.Classes.{inClass};
 ghost use Rattle.field_digits.specs.Numbers.{numberOf, paired, written, codeOf};
@@ -13,6 +14,7 @@ ghost use Rattle.field_words.specs.Words.{bytesOf};
 use field_accounts::Account;
 use field_bytes::classes::Class;
 use field_bytes::classes::in_class;
+use field_digits::DigitPairs;
 use field_digits::Digits;
 
 pub fn number_at(r: &[u8], from: usize, to: usize) -> Digits
@@ -23,7 +25,7 @@ pub fn number_at(r: &[u8], from: usize, to: usize) -> Digits
 }
 
 // Six digits two by two.
-pub fn pairs_at(r: &[u8], from: usize) -> Digits
+pub fn pairs_at(r: &[u8], from: usize) -> DigitPairs
     requires { ⌜ Inside from (from + 5) (now r) ⌝ }
     ensures { λ d. ⌜ d ≡ paired (numberOf (part from (from + 5) (now (r .entry)))) ⌝ }
 {
@@ -52,7 +54,7 @@ pub fn all_at(class: Class, r: &[u8], from: usize, to: usize) -> bool
 
 // Zeros up to the end of a record: its last byte is the line feed.
 pub fn zeros_from(r: &[u8], from: usize) -> bool
-    requires { ⌜ (length (now r) ≡ 81) × (1 ≤ from) × (from ≤ 80) ⌝ }
+    requires { ⌜ (length (now r) ≡ recordBytes) × (1 ≤ from) × (from ≤ 80) ⌝ }
     ensures { λ b. ⌜ b ≡ every isZero (part from 80 (now (r .entry))) ⌝ }
 {
     field_bytes::classes::all_in(Class::Zero, &r[from - 1..r.len() - 1])

@@ -21,7 +21,7 @@ impl Count {
 }
 
 impl TransactionNumber {
-    // `n` may come next behind this number.
+    // `n` may come next after this number.
     pub fn precedes(self, n: TransactionNumber) -> bool
         ensures { λ r. ⌜ r ≡ follows self n ⌝ }
     {

@@ -1,1 +1,1 @@
-pub mod Weighed
+pub mod Days

@@ -1,28 +1,24 @@
 -- Keys that two files share: found in the lists of keys, and the first record that brings one.
 -- Assumes nothing.
-use Prim.Native.Nat.{ℕ, zero, suc, _+_, _-_, _*_, _/_, _≤_, _<_}
-use mathlib.Core.Path.{_≡_, refl, sym, ap, subst, _∙_}
-use mathlib.Core.List.{List, [], _∷_, _++_}
+use Prim.Native.Nat.{ℕ, suc, _+_, _-_, _/_, _≤_, _<_}
+use mathlib.Core.Path.{_≡_, sym, ap, subst, _∙_}
+use mathlib.Core.List.{List, [], _∷_}
 use mathlib.Core.Bool.{Bool, true, false, _||_, or-false, or-assoc}
 use native.Mathlib.Omega.{arith}
 use native.Mathlib.Numerals.{add-one}
-use borrow.Author.Tests.{eq-eqb, ne-eqb}
-use lib.Dec.{eqb}
 use lib.ListN.{length, getD, take, drop, length-take, drop-of-length-le}
 use lib.Seq.{drop-cons, getD-take}
 use Rattle.choice.specs.Choice.{if_then_else_}
+use Rattle.limits.specs.Limits.{recordBytes}
 use Rattle.layout.specs.Rows.{member}
 use Rattle.operations.specs.Joining.{shares, sharedAt}
-use Rattle.rules.specs.Codes.{recordCode, keyIn, kindOf}
+use Rattle.rules.specs.Codes.{recordCode, keyIn}
 use Rattle.rules.specs.Growth.{keysFor, keys}
-use Rattle.rules.specs.Run.{chunks, recordsOf}
+use Rattle.rules.specs.Run.{recordsOf, recordAt}
 use Rattle.rules.specs.declared.Kind.{Kind}
-use Rattle.rules.specs.declared.Kind.the-variants.{R20}
 use Rattle.rules.proofs.Codes.{twenty, no-key}
-use Rattle.rules.proofs.Records.{rest, rest-next, rest-end, rest-start, part-is, part-long}
-use Rattle.close_blocks.specs.Block.{recordAt}
-use Rattle.close_blocks.proofs.Walk.{handed}
-use Rattle.join_pairs.specs.Pairs.{Keyed, AllKeyed}
+use Rattle.rules.proofs.Records.{rest, rest-next, rest-end, rest-start}
+use Rattle.join_pairs.specs.Pairs.{KeyReadable, KeysReadable}
 
 -- ---- over the keys
 pub shared-next : (ks l : List ℕ) (n i x : ℕ) (found here : Bool) → i < n → n ≤ length l → x ≡ getD l i 0 → here ≡ member x ks
@@ -52,45 +48,42 @@ unfolding shares
 brings-key ks r n x b e h k q =
     q ∙ ap (λ (y : ℕ). member y ks) k ∙ sym (or-false (member (keyIn r) ks)) ∙ ap (λ (y : Kind). shares ks (keysFor y r)) (sym (twenty (recordCode r) (sym e ∙ h)))
 
--- behind k records none of which brings such a key
+-- after k records none of which brings such a key
 pub record Searched (b ks : List ℕ) (k : ℕ) : Type 0 where
-  pub within : k ≤ length b / 81
-  pub keyed : AllKeyed (rest b (length b / 81) k)
-  pub same : sharedAt 0 ks (recordsOf b) ≡ sharedAt k ks (rest b (length b / 81) k)
+  pub within : k ≤ length b / recordBytes
+  pub readable : KeysReadable (rest b (length b / recordBytes) k)
+  pub same : sharedAt 0 ks (recordsOf b) ≡ sharedAt k ks (rest b (length b / recordBytes) k)
 
-pub searched-none : (b ks : List ℕ) → AllKeyed (recordsOf b) → Searched b ks 0
+pub searched-none : (b ks : List ℕ) → KeysReadable (recordsOf b) → Searched b ks 0
 searched-none b ks h =
-    let i = rest-start b (length b / 81) in
-    record { within = omega arith; keyed = subst AllKeyed (sym i) h; same = ap (sharedAt 0 ks) (sym i) }
+    let i = rest-start b (length b / recordBytes) in
+    record { within = omega arith; readable = subst KeysReadable (sym i) h; same = ap (sharedAt 0 ks) (sym i) }
 
 module _ (b ks : List ℕ) (k : ℕ) (s : Searched b ks k) where
-  pub searched-all : length b / 81 ≤ k → 0 ≡ sharedAt 0 ks (recordsOf b)
+  pub searched-all : length b / recordBytes ≤ k → 0 ≡ sharedAt 0 ks (recordsOf b)
   unfolding sharedAt
-  searched-all h = sym (s .same ∙ ap (sharedAt k ks) (rest-end b (length b / 81) k (omega (arith, s .within))))
+  searched-all h = sym (s .same ∙ ap (sharedAt k ks) (rest-end b (length b / recordBytes) k (omega (arith, s .within))))
 
-  module _ (h : k < length b / 81) where
-    here : rest b (length b / 81) k ≡ recordAt k b ∷ rest b (length b / 81) (k + 1)
-    here = rest-next b (length b / 81) k h
+  module _ (h : k < length b / recordBytes) where
+    here : rest b (length b / recordBytes) k ≡ recordAt k b ∷ rest b (length b / recordBytes) (k + 1)
+    here = rest-next b (length b / recordBytes) k h
 
-    keyed-here : Keyed (recordAt k b) × AllKeyed (rest b (length b / 81) (k + 1))
-    unfolding AllKeyed
-    keyed-here = subst AllKeyed here (s .keyed)
+    readable-here : KeyReadable (recordAt k b) × KeysReadable (rest b (length b / recordBytes) (k + 1))
+    unfolding KeysReadable
+    readable-here = subst KeysReadable here (s .readable)
 
-    pub asks : (length (handed b k) ≡ 81) × Keyed (handed b k)
-    asks = subst (λ (r : List ℕ). (length r ≡ 81) × Keyed r) (sym (part-is b k)) (part-long b k (omega arith), keyed-here .0)
+    module _ (r : List ℕ) (q : r ≡ recordAt k b) where
+      pub readable-record : KeyReadable r
+      readable-record = subst KeyReadable (sym q) (readable-here .0)
 
-    pub found-here : (x : Bool) → x ≡ shares ks (keys (handed b k)) → x ≡ true → k + 1 ≡ sharedAt 0 ks (recordsOf b)
-    unfolding sharedAt
-    found-here x e t =
-        sym (s .same ∙ ap (sharedAt k ks) here
-        ∙ ap (λ (y : Bool). if y then k + 1 else sharedAt (k + 1) ks (rest b (length b / 81) (k + 1))) (sym (e ∙ ap (λ (r : List ℕ). shares ks (keys r)) (part-is b k)) ∙ t))
+      found-or-not : (x : Bool) → shares ks (keys r) ≡ x → sharedAt 0 ks (recordsOf b) ≡ (if x then k + 1 else sharedAt (k + 1) ks (rest b (length b / recordBytes) (k + 1)))
+      unfolding sharedAt
+      found-or-not x e =
+          s .same ∙ ap (sharedAt k ks) here
+          ∙ ap (λ (y : Bool). if y then k + 1 else sharedAt (k + 1) ks (rest b (length b / recordBytes) (k + 1))) (ap (λ (l : List ℕ). shares ks (keys l)) (sym q) ∙ e)
 
-    pub searched-next : (x : Bool) → x ≡ shares ks (keys (handed b k)) → x ≡ false → Searched b ks (k + 1)
-    unfolding sharedAt
-    searched-next x e t =
-        record {
-          within = omega arith;
-          keyed = keyed-here .1;
-          same = s .same ∙ ap (sharedAt k ks) here
-              ∙ ap (λ (y : Bool). if y then k + 1 else sharedAt (k + 1) ks (rest b (length b / 81) (k + 1))) (sym (e ∙ ap (λ (r : List ℕ). shares ks (keys r)) (part-is b k)) ∙ t);
-        }
+      pub found-here : (x : Bool) → x ≡ shares ks (keys r) → x ≡ true → k + 1 ≡ sharedAt 0 ks (recordsOf b)
+      found-here x e t = sym (found-or-not true (sym e ∙ t))
+
+      pub searched-next : (x : Bool) → x ≡ shares ks (keys r) → x ≡ false → Searched b ks (k + 1)
+      searched-next x e t = record { within = omega arith; readable = readable-here .1; same = found-or-not false (sym e ∙ t) }

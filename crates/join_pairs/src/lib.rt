@@ -4,14 +4,17 @@ ghost use mathlib.Core.Path.{_≡_};
 ghost use Prim.Native.Nat.{_≤_};
 ghost use lib.ListN.{length, take};
 ghost use Rattle.fields.specs.Bytes.{same};
-ghost use Rattle.operations.specs.Joining.{sender, both, shares, sharedAt};
-ghost use Rattle.rules.specs.Growth.{keys};
-ghost use Rattle.rules.specs.Refusals.{refused};
+ghost use Rattle.limits.specs.Limits.{recordBytes};
+ghost use Rattle.operations.specs.Joining.{sender, both, shares, sharedAt, weighLimits, weighBoth};
+ghost use Rattle.rules.specs.Growth.{keys, allKeys};
 ghost use Rattle.rules.specs.Run.{recordsOf};
-ghost use Rattle.join_pairs.specs.Pairs.{Keyed, AllKeyed, Countable, limited, Judged, allowed};
+ghost use Rattle.join_pairs.specs.Pairs.{KeyReadable, KeysReadable, Countable, Judged};
 use figures::amounts::Amount;
-use figures::counts::Count;
 use figures::totals::Totals;
+use limits::MOST_ASSIGNMENTS;
+use limits::MOST_OF_ALL;
+use limits::MOST_RECORDS;
+use limits::RECORD_BYTES;
 use rules::Refusal;
 use rules::Verdict;
 
@@ -24,41 +27,39 @@ fn same_sender(first: &[u8], second: &[u8]) -> bool
 }
 
 // One of the second file's keys stands among the first's.
-fn any_shared(ours: &[u64], used: usize, theirs: &[u64], count: usize) -> bool
-    requires { ⌜ (used ≤ length (now ours)) × (count ≤ length (now theirs)) ⌝ }
-    ensures { λ x. ⌜ x ≡ shares (take used (now (ours .entry))) (take count (now (theirs .entry))) ⌝ }
+fn any_shared(ours: &[u64], count: usize, theirs: &[u64], others: usize) -> bool
+    requires { ⌜ (count ≤ length (now ours)) × (others ≤ length (now theirs)) ⌝ }
+    ensures { λ x. ⌜ x ≡ shares (take count (now (ours .entry))) (take others (now (theirs .entry))) ⌝ }
 {
     let mut found = false;
     let mut i: usize = 0;
-    while i < count {
-        found = found | record_10_20::seen(ours, used, theirs[i]);
+    while i < others {
+        found = found | record_10_20::seen(ours, count, theirs[i]);
         i += 1;
     }
     found
 }
 
 // A record 20 whose key stands among the first file's.
-fn brings(r: &[u8], ours: &[u64], used: usize) -> bool
-    requires { ⌜ (length (now r) ≡ 81) × (used ≤ length (now ours)) × Keyed (now r) ⌝ }
-    ensures { λ x. ⌜ x ≡ shares (take used (now (ours .entry))) (keys (now (r .entry))) ⌝ }
+fn brings(r: &[u8], ours: &[u64], count: usize) -> bool
+    requires { ⌜ (length (now r) ≡ recordBytes) × (count ≤ length (now ours)) × KeyReadable (now r) ⌝ }
+    ensures { λ x. ⌜ x ≡ shares (take count (now (ours .entry))) (keys (now (r .entry))) ⌝ }
 {
     if fields::code_at(r, 7) != 20 {
         return false;
     }
-    record_10_20::seen(ours, used, record_10_20::key_of(r))
+    record_10_20::seen(ours, count, record_10_20::key_of(r))
 }
 
 // The number of the first such record, from 1; 0 if there is none.
-fn first_shared(file: &[u8], ours: &[u64], used: usize) -> u64
-    requires { ⌜ (used ≤ length (now ours)) × AllKeyed (recordsOf (now file)) ⌝ }
-    ensures { λ x. ⌜ x ≡ sharedAt 0 (take used (now (ours .entry))) (recordsOf (now (file .entry))) ⌝ }
+fn first_shared(file: &[u8], ours: &[u64], count: usize) -> u64
+    requires { ⌜ (count ≤ length (now ours)) × KeysReadable (recordsOf (now file)) ⌝ }
+    ensures { λ x. ⌜ x ≡ sharedAt 0 (take count (now (ours .entry))) (recordsOf (now (file .entry))) ⌝ }
 {
-    let count = file.len() / 81;
+    let records = file.len() / RECORD_BYTES;
     let mut k: usize = 0;
-    while k < count {
-        let at = 81 * k;
-        let end = at + 81;
-        if brings(&file[at..end], ours, used) {
+    while k < records {
+        if brings(rules::record_at(file, k), ours, count) {
             return k as u64 + 1;
         }
         k += 1;
@@ -71,56 +72,32 @@ fn both(s: Totals, t: Totals) -> Totals
     requires { ⌜ Countable s × Countable t ⌝ }
     ensures { λ x. ⌜ x ≡ both s t ⌝ }
 {
-    let together = s.plus(t);
-    let assignments = together.assignments;
-    let transactions = together.transactions;
-    let records = together.records;
-    let sum = together.sum;
-    let first = together.first;
-    Totals {
-        assignments,
-        transactions,
-        records: Count(records.0 - 2),
-        sum,
-        first,
-    }
+    s.plus(t).less_records(2)
 }
 
 // The limits of the file to be written: 3, 16, 13.
-fn limited(s: Totals, t: Totals) -> Verdict
+fn weigh_limits(s: Totals, t: Totals) -> Verdict
     requires { ⌜ Countable s × Countable t ⌝ }
-    ensures { λ x. ⌜ x ≡ limited s t ⌝ }
+    ensures { λ x. ⌜ x ≡ weighLimits s t ⌝ }
 {
     let joined = both(s, t);
     let records = joined.records;
     let assignments = joined.assignments;
     let sum = s.sum;
-    if 200000 < records.0 {
-        return check_file::refuse(3);
+    if MOST_RECORDS < records.0 as usize {
+        return Verdict::Refused(Refusal::whole(3));
     }
-    if 500 < assignments.0 {
-        return check_file::refuse(16);
+    if MOST_ASSIGNMENTS < assignments.0 as usize {
+        return Verdict::Refused(Refusal::whole(16));
     }
-    if !sum.holds(t.sum, Amount(99999999999999999)) {
-        return check_file::refuse(13);
+    if !sum.holds(t.sum, Amount(MOST_OF_ALL)) {
+        return Verdict::Refused(Refusal::whole(13));
     }
     Verdict::Accepted(joined)
 }
 
-// A refusal that names the second file.
-fn refuse_second(number: u8, at: u64, field: u8) -> Verdict
-    ensures { λ x. ⌜ x ≡ refused number 2 at field ⌝ }
-{
-    Verdict::Refused(Refusal {
-        number,
-        operand: 2,
-        record: at,
-        field,
-    })
-}
-
 // Two accepted files, their figures and their keys: 20, 15, then the limits.
-pub fn allowed(
+pub fn weigh_both(
     first: &[u8],
     second: &[u8],
     s: Totals,
@@ -129,15 +106,16 @@ pub fn allowed(
     theirs: &[u64],
 ) -> Verdict
     requires { ⌜ Judged (now first) s (now ours) × Judged (now second) t (now theirs) ⌝ }
-    ensures { λ x. ⌜ x ≡ allowed (now (first .entry)) (now (second .entry)) s t ⌝ }
+    ensures { λ x. ⌜ x ≡ weighBoth (sender (now (first .entry))) (allKeys (recordsOf (now (first .entry)))) s (sender (now (second .entry))) (recordsOf (now (second .entry))) t ⌝ }
 {
-    let used = s.assignments;
-    let count = t.assignments;
+    let count = s.assignments;
+    let others = t.assignments;
     if !same_sender(first, second) {
-        return refuse_second(20, 1, 5);
+        return Verdict::Refused(Refusal::at(20, 1, 5).of(2));
     }
-    if any_shared(ours, used.0 as usize, theirs, count.0 as usize) {
-        return refuse_second(15, first_shared(second, ours, used.0 as usize), 6);
+    if any_shared(ours, count.0 as usize, theirs, others.0 as usize) {
+        let record = first_shared(second, ours, count.0 as usize);
+        return Verdict::Refused(Refusal::at(15, record, 6).of(2));
     }
-    limited(s, t)
+    weigh_limits(s, t)
 }

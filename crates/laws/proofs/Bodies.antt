@@ -32,7 +32,7 @@ use Rattle.laws.specs.View.{headed, Good}
 use Rattle.laws.proofs.Sound.{turns-join, meets-join, meets-split}
 use Rattle.laws.proofs.Frame.{frame, fitted}
 use Rattle.laws.proofs.Types.{type-by, last-is}
-use Rattle.laws.proofs.Places.{known, behind-88, behind-89}
+use Rattle.laws.proofs.Follows.{known, behind-88, behind-89}
 use Rattle.laws.proofs.Bytes.{sized-join, sized-split}
 use Rattle.laws.proofs.Closes.{anew}
 use Rattle.laws.proofs.Keys.{fresh-behind, fresh-alone, fresh-apart}

@@ -1,6 +1,6 @@
 -- Records and bytes: bytes cut into pieces and laid one behind the other again, both ways, and the records of a file as such pieces.
 -- Assumes nothing.
-use Prim.Native.Nat.{ℕ, zero, suc, _+_, _*_, _/_, _%_, _<_}
+use Prim.Native.Nat.{ℕ, zero, suc, _+_, _*_, _/_, _%_, _≤_, _<_}
 use mathlib.Core.Path.{_≡_, refl, sym, ap, ap₂, _∙_}
 use mathlib.Core.List.{List, [], _∷_, _++_}
 use mathlib.Core.Bool.{Bool, true, false, not, _||_}
@@ -8,7 +8,7 @@ use native.Mathlib.Omega.{arith}
 use borrow.Author.Tests.{eqb-true, eqb-false, eq-eqb, ne-eqb, not-false}
 use lib.Dec.{eqb}
 use lib.ListN.{length, take, drop, replicate, length-append, length-take, length-drop, take-append-drop}
-use lib.Seq.{take-at, drop-at}
+use lib.Seq.{take-at, drop-at, take-add}
 use Rattle.rules.specs.Run.{chunks, recordsOf, badLength}
 use Rattle.operations.specs.Closing.{bytesOf}
 use Rattle.laws.specs.View.{Sized}
@@ -73,6 +73,14 @@ chunks-length : (n : ℕ) (b : List ℕ) → length (chunks n b) ≡ n
 unfolding chunks
 chunks-length zero b = refl
 chunks-length (suc n) b = ap suc (chunks-length n (drop 81 b))
+
+-- the first n of them laid one behind the other again
+pub laid : (n : ℕ) (b : List ℕ) → 81 * n ≤ length b → bytesOf (chunks n b) ≡ take (81 * n) b
+unfolding bytesOf chunks
+laid zero b h = refl
+laid (suc n) b h =
+    let e : 81 + 81 * n ≡ 81 * suc n = omega arith in
+    ap (λ (l : List ℕ). take 81 b ++ l) (laid n (drop 81 b) (rw length-drop (omega arith))) ∙ sym (take-add 81 (81 * n) b) ∙ ap (λ (x : ℕ). take x b) e
 
 pub sized-join : (xs ys : List (List ℕ)) → Sized xs → Sized ys → Sized (xs ++ ys)
 unfolding Sized

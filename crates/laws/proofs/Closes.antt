@@ -32,7 +32,7 @@ use Rattle.laws.specs.Stripped.{anEnd, strip}
 use Rattle.laws.proofs.Frame.{transfer, asked, fits-on, frame}
 use Rattle.laws.proofs.Types.{code-is, end-is}
 use Rattle.laws.proofs.EndRecords.{Small, its88, kind-88, holds-88, its89, kind-89, holds-89}
-use Rattle.laws.proofs.Places.{known, Stands, reopens, in-draft}
+use Rattle.laws.proofs.Follows.{known, Stands, reopens, in-draft}
 use Rattle.laws.proofs.EndsPut.{put-none, put-88, put-last, kept, taken-out, gain-88, keys-88, turn-88}
 
 -- ---- an assignment's figures are at most its file's, and transactions are records

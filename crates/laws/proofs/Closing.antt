@@ -1,21 +1,17 @@
--- Demand 2 for closing, on bytes: the written file is accepted with its figures, has the draft's records, and is the one such file.
+-- Demand 2 for closing, on bytes: the written file is accepted with its figures, has the draft's records, and is the one such file;
+-- a draft is closed exactly when it breaks no rule and has room, else refused with the first reason.
 -- Assumes nothing.
 use Prim.Native.Nat.{ℕ, _+_, _*_, _/_, _≤_, _<_}
 use mathlib.Core.Path.{_≡_, refl, sym, ap, subst, _∙_}
 use mathlib.Core.Logic.{_↔_}
 use mathlib.Core.List.{List, [], _∷_, _++_}
-use mathlib.Core.Bool.{Bool, true, false, false≢true}
+use mathlib.Core.Bool.{true, false, false≢true}
 use native.Mathlib.Nat.{add-zero}
 use native.Mathlib.Omega.{arith}
-use borrow.Author.Tests.{leb-true, le-leb, ltb-true}
-use lib.Dec.{leb}
+use borrow.Author.Tests.{ltb-true}
 use lib.ListN.{length, drop}
-use Rattle.choice.specs.Choice.{if_then_else_}
-use Rattle.dates.specs.Windows.{windowOf}
 use Rattle.dates.specs.declared.ProcessDay.{ProcessDay}
 use Rattle.dates.specs.declared.Window.{Window}
-use Rattle.dates.specs.declared.Opening.{Opening}
-use Rattle.dates.specs.declared.Opening.the-variants.{Open, NoDay}
 use Rattle.dates.proofs.Laws.{earlier-none}
 use Rattle.figures.specs.Figures.{amount, count}
 use Rattle.figures.specs.Totals.{none, _⊕_}
@@ -23,26 +19,27 @@ use Rattle.figures.specs.declared.totals.Totals.{Totals}
 use Rattle.figures.proofs.Laws.{none-⊕}
 use Rattle.rules.specs.Order.{mayEnd}
 use Rattle.rules.specs.Growth.{start}
-use Rattle.limits.specs.Limits.{mostRecords}
-use Rattle.rules.specs.Refusals.{refused}
-use Rattle.rules.specs.Run.{run, recordsOf, badLength, onWindow, checkOf}
+use Rattle.limits.specs.Limits.{recordBytes, mostRecords}
+use Rattle.rules.specs.Run.{recordsOf, checkOf}
 use Rattle.rules.specs.declared.Mode.the-variants.{File, Draft}
 use Rattle.rules.specs.declared.Refusal.{Refusal}
 use Rattle.rules.specs.declared.Verdict.{Verdict}
 use Rattle.rules.specs.declared.Verdict.the-variants.{Accepted, Refused}
-use Rattle.operations.specs.Closing.{openings, toWrite, closedFigures, given, onAccepted, weigh, closeOf, withEnds, bytesOf, closedFile, lentAfter, closedBytes}
+use Rattle.operations.specs.Closing.{openings, toWrite, closedFigures, closeOf, withEnds, bytesOf, closedFile, lentAfter, closedBytes}
 use Rattle.laws.specs.Meets.{gains, turns, Meets, Ends, Lawful}
 use Rattle.laws.specs.Plain.{FiguresOf}
 use Rattle.laws.specs.View.{Sized}
 use Rattle.laws.specs.Stripped.{strip, stripped}
-use Rattle.laws.proofs.Sound.{met, runs}
+use Rattle.laws.specs.Closable.{LawfulDraft, FileFor, CloseRefusing}
 use Rattle.laws.proofs.Frame.{fitted}
-use Rattle.laws.proofs.Demand2.{Accepting, accepting, accepts, figures-of-records}
+use Rattle.laws.proofs.Demand2.{Accepting, accepting, accepts, figures-of-records, one-figures}
 use Rattle.laws.proofs.Bytes.{Whole, whole, whole-length, whole-bytes, record-count, bytes-length, records-again, bytes-again, sized-records}
-use Rattle.laws.proofs.Places.{at-88}
+use Rattle.laws.proofs.Follows.{at-88}
 use Rattle.laws.proofs.EndsPut.{sized-ends, sized-strip, gains-records, gains-openings, ends-add}
 use Rattle.laws.proofs.Closes.{Drafted, Closed, closes, stands-behind}
 use Rattle.laws.proofs.Strips.{Stripped, strips}
+use Rattle.laws.proofs.Weighs.{Closing, closes-so, refusing, refuses-so, sound-and-room, room-and-sound}
+pub use Rattle.laws.proofs.Weighs.{closing}
 
 -- ---- on records: an accepted draft
 module _ (w : Window) (ds : List (List ℕ)) (meets : Meets Draft w none [] (start .assignment) ds) (ends : Ends Draft (turns (start .assignment) ds)) where
@@ -81,93 +78,17 @@ module _ (w : Window) (ds : List (List ℕ)) (meets : Meets Draft w none [] (sta
         ends = ends;
       }
 
--- ---- what an accepting answer of closing says
-not-both : (t : Totals) (x : Refusal) → Refused x ≡ Accepted t → ⊥
-not-both t x e = let z : _≡_ {A = ℕ} 0 1 = cc in omega arith
-
-same-totals : (t u : Totals) → Accepted t ≡ Accepted u → t ≡ u
-same-totals t u e = cc
-
-pub record Closing (day : ProcessDay) (d : List ℕ) (room : ℕ) (t : Totals) : Type 0 where
-  pub window : Window
-  pub opened : windowOf day ≡ Open window
-  pub lengthy : badLength d ≡ false
-  pub few : toWrite (recordsOf d) ≤ mostRecords
-  pub meets : Meets Draft window none [] (start .assignment) (recordsOf d)
-  pub ends : Ends Draft (turns (start .assignment) (recordsOf d))
-  pub figures : t ≡ closedFigures (gains (recordsOf d))
-  pub fits : 81 * t .records .0 ≤ room
-
-given-is : (room : ℕ) (t u : Totals) → given room t ≡ Accepted u → (u ≡ t) × (81 * t .records .0 ≤ room)
-given-is room t u e = go (leb (81 * t .records .0) room) refl e
-  where
-    go : (b : Bool) → leb (81 * t .records .0) room ≡ b → (if b then Accepted t else refused 19 0 0 0) ≡ Accepted u → (u ≡ t) × (81 * t .records .0 ≤ room)
-    go true p e = (sym (same-totals t u e), leb-true _ _ p)
-    go false p e = absurd (not-both u _ e)
-
-on-accepted : (v : Verdict) (f : Totals → Verdict) (u : Totals) → onAccepted v f ≡ Accepted u → (t : Totals) × (v ≡ Accepted t) × (f t ≡ Accepted u)
-on-accepted (Accepted t) f u e = (t, refl, e)
-on-accepted (Refused x) f u e = absurd (not-both u x e)
-
-weighed : (day : ProcessDay) (w : Window) (d : List ℕ) (room : ℕ) (t : Totals) → windowOf day ≡ Open w → weigh w d ≡ Accepted t → 81 * t .records .0 ≤ room → Closing day d room t
-unfolding weigh
-weighed day w d room t o e fits = go (badLength d) (leb (toWrite (recordsOf d)) mostRecords) refl refl e
-  where
-    go : (x y : Bool) → badLength d ≡ x → leb (toWrite (recordsOf d)) mostRecords ≡ y
-        → (if x then refused 2 0 0 0 else (if y then onAccepted (run Draft w 0 start [] (recordsOf d)) (λ t. Accepted (closedFigures t)) else refused 3 0 0 0)) ≡ Accepted t → Closing day d room t
-    go true y p q e = absurd (not-both t _ e)
-    go false false p q e = absurd (not-both t _ e)
-    go false true p q e =
-        let v = on-accepted (run Draft w 0 start [] (recordsOf d)) (λ t. Accepted (closedFigures t)) t e in
-        let r = met Draft w 0 start [] (recordsOf d) (v .0) (v .1) in
-        record {
-          window = w;
-          opened = o;
-          lengthy = p;
-          few = leb-true _ _ q;
-          meets = r .meets;
-          ends = r .ends;
-          figures = sym (same-totals _ _ (v .2)) ∙ ap closedFigures (r .total ∙ none-⊕ (gains (recordsOf d)));
-          fits = fits;
-        }
-
-pub closing : (day : ProcessDay) (d : List ℕ) (room : ℕ) (t : Totals) → closeOf day d room ≡ Accepted t → Closing day d room t
-unfolding closeOf
-closing day d room t e = go (windowOf day) refl e
-  where
-    go : (o : Opening) → windowOf day ≡ o → onWindow o (λ w. onAccepted (weigh w d) (given room)) ≡ Accepted t → Closing day d room t
-    go NoDay p e = absurd (not-both t _ e)
-    go (Open w) p e =
-        let v = on-accepted (weigh w d) (given room) t e in
-        let g = given-is room (v .0) t (v .2) in
-        subst (Closing day d room) (sym (g .0)) (weighed day w d room (v .0) p (v .1) (g .1))
-
--- and what gives one
-weighs : (w : Window) (d : List ℕ) → badLength d ≡ false → toWrite (recordsOf d) ≤ mostRecords → Meets Draft w none [] (start .assignment) (recordsOf d)
-    → Ends Draft (turns (start .assignment) (recordsOf d)) → weigh w d ≡ Accepted (closedFigures (gains (recordsOf d)))
-unfolding weigh
-weighs w d l few m e =
-    rw (l, le-leb (toWrite (recordsOf d)) mostRecords few)
-    (ap (λ (v : Verdict). onAccepted v (λ t. Accepted (closedFigures t))) (runs Draft w 0 start [] (recordsOf d) m e) ∙ ap (λ (t : Totals). Accepted (closedFigures t)) (none-⊕ (gains (recordsOf d))))
-
-closes-so : (day : ProcessDay) (d : List ℕ) (room : ℕ) (t : Totals) → Closing day d room t → closeOf day d room ≡ Accepted t
-unfolding closeOf
-closes-so day d room t c =
-    ap (λ (o : Opening). onWindow o (λ w. onAccepted (weigh w d) (given room))) (c .opened)
-    ∙ ap (λ (v : Verdict). onAccepted v (given room)) (weighs (c .window) d (c .lengthy) (c .few) (c .meets) (c .ends) ∙ ap Accepted (sym (c .figures)))
-    ∙ ap (λ (b : Bool). if b then Accepted t else refused 19 0 0 0) (le-leb (81 * t .records .0) room (c .fits))
-
 -- ---- the written file
 module _ (day : ProcessDay) (d : List ℕ) (room : ℕ) (t : Totals) (c : Closing day d room t) where
   put : List (List ℕ)
   put = withEnds start (recordsOf d)
 
-  closed : Closed (c .window) start [] (recordsOf d)
-  closed = closes (c .window) start [] (recordsOf d) (drafted (c .window) (recordsOf d) (c .meets) (c .ends) (c .few))
+  closed : Closed (c .draft .window) start [] (recordsOf d)
+  closed = closes (c .draft .window) start [] (recordsOf d) (drafted (c .draft .window) (recordsOf d) (c .draft .meets) (c .draft .ends) (c .draft .few))
 
   put-sized : Sized put
   unfolding put
-  put-sized = sized-ends start (recordsOf d) (sized-records d (whole d (c .lengthy)))
+  put-sized = sized-ends start (recordsOf d) (sized-records d (whole d (c .draft .lengthy)))
 
   put-records : recordsOf (closedFile d) ≡ put
   unfolding closedFile put
@@ -175,23 +96,23 @@ module _ (day : ProcessDay) (d : List ℕ) (room : ℕ) (t : Totals) (c : Closin
 
   put-count : length put ≡ toWrite (recordsOf d)
   unfolding put
-  put-count = records-written (c .window) (recordsOf d) (c .meets) (c .ends)
+  put-count = records-written (c .draft .window) (recordsOf d) (c .draft .meets) (c .draft .ends)
 
   lawful : Lawful day (closedFile d)
   unfolding closedFile put
   lawful =
       record {
-        window = c .window;
-        opened = c .opened;
+        window = c .draft .window;
+        opened = c .draft .opened;
         lengthy = whole-length (closedFile d) (whole-bytes put put-sized (omega (arith, put-count)));
-        few = omega (arith, put-count, c .few, record-count (closedFile d), ap length put-records);
-        meets = subst (Meets File (c .window) none [] (start .assignment)) (sym put-records) (closed .meets);
+        few = omega (arith, put-count, c .draft .few, record-count (closedFile d), ap length put-records);
+        meets = subst (Meets File (c .draft .window) none [] (start .assignment)) (sym put-records) (closed .meets);
         ends = subst (λ (rs : List (List ℕ)). Ends File (turns (start .assignment) rs)) (sym put-records) (closed .ends);
       }
 
   put-gains : gains (recordsOf (closedFile d)) ≡ t
   unfolding put
-  put-gains = ap gains put-records ∙ figures-written (c .window) (recordsOf d) (c .meets) (c .ends) ∙ sym (c .figures)
+  put-gains = ap gains put-records ∙ figures-written (c .draft .window) (recordsOf d) (c .draft .meets) (c .draft .ends) ∙ sym (c .figures)
 
   put-length : length (closedFile d) ≡ 81 * t .records .0
   unfolding closedFile put
@@ -201,7 +122,7 @@ module _ (day : ProcessDay) (d : List ℕ) (room : ℕ) (t : Totals) (c : Closin
 
   put-back : stripped (closedFile d) ≡ d
   unfolding stripped put
-  put-back = ap (λ (rs : List (List ℕ)). bytesOf (strip rs)) put-records ∙ ap bytesOf (closed .back) ∙ bytes-again d (whole d (c .lengthy))
+  put-back = ap (λ (rs : List (List ℕ)). bytesOf (strip rs)) put-records ∙ ap bytesOf (closed .back) ∙ bytes-again d (whole d (c .draft .lengthy))
 
 -- ---- the stripped file
 some-records : (rs : List (List ℕ)) → 0 < openings rs → 0 < length rs
@@ -253,12 +174,14 @@ module _ (day : ProcessDay) (b : List ℕ) (t : Totals) (a : Accepting day b t) 
       let some = some-records bare (opens-some (a .window) bare (taken .meets) (taken .ends)) in
       let few : toWrite bare ≤ mostRecords = omega (arith, n, ap length (taken .same), record-count b, a .few) in
       record {
-        window = a .window;
-        opened = a .opened;
-        lengthy = whole-length (stripped b) (whole-bytes bare bare-sized some);
-        few = subst (λ (rs : List (List ℕ)). toWrite rs ≤ mostRecords) (sym bare-records) few;
-        meets = subst (Meets Draft (a .window) none [] (start .assignment)) (sym bare-records) (taken .meets);
-        ends = subst (λ (rs : List (List ℕ)). Ends Draft (turns (start .assignment) rs)) (sym bare-records) (taken .ends);
+        draft = record {
+          window = a .window;
+          opened = a .opened;
+          lengthy = whole-length (stripped b) (whole-bytes bare bare-sized some);
+          few = subst (λ (rs : List (List ℕ)). toWrite rs ≤ mostRecords) (sym bare-records) few;
+          meets = subst (Meets Draft (a .window) none [] (start .assignment)) (sym bare-records) (taken .meets);
+          ends = subst (λ (rs : List (List ℕ)). Ends Draft (turns (start .assignment) rs)) (sym bare-records) (taken .ends);
+        };
         figures =
             t-gains ∙ ap gains (sym (taken .same)) ∙ figures-written (a .window) bare (taken .meets) (taken .ends)
             ∙ ap (λ (rs : List (List ℕ)). closedFigures (gains rs)) (sym bare-records);
@@ -274,7 +197,7 @@ closed-accepted day d room t e =
 
 -- it has as many records as they say, and fits into the output
 pub closed-fits : (day : ProcessDay) (d : List ℕ) (room : ℕ) (t : Totals) → closeOf day d room ≡ Accepted t
-    → (length (closedFile d) ≡ 81 * t .records .0) × (length (closedFile d) ≤ room)
+    → (length (closedFile d) ≡ recordBytes * t .records .0) × (length (closedFile d) ≤ room)
 closed-fits day d room t e =
     let c = closing day d room t e in
     let l = put-length day d room t c in
@@ -300,13 +223,6 @@ pub closed-only : (day : ProcessDay) (b : List ℕ) (t : Totals) (d : List ℕ) 
 closed-only day b t d e s = sym (closed-again day b t (accepting day b t e)) ∙ ap closedFile s
 
 -- a draft closes exactly when there is such a file, and room for it
-pub record FileFor (day : ProcessDay) (d : List ℕ) (room : ℕ) : Type 0 where
-  pub file : List ℕ
-  pub figures : Totals
-  pub accepted : checkOf day file ≡ Accepted figures
-  pub records : stripped file ≡ d
-  pub fits : length file ≤ room
-
 pub closes-exactly : (day : ProcessDay) (d : List ℕ) (room : ℕ) → ((t : Totals) × (closeOf day d room ≡ Accepted t)) ↔ FileFor day d room
 closes-exactly day d room = (there, λ v. (v .figures, ap (λ (x : List ℕ). closeOf day x room) (sym (v .records)) ∙ stripped-closes day (v .file) (v .figures) (v .accepted) room (v .fits) .0))
   where
@@ -319,6 +235,26 @@ closes-exactly day d room = (there, λ v. (v .figures, ap (λ (x : List ℕ). cl
           records = closed-keeps day d room (v .0) (v .1);
           fits = closed-fits day d room (v .0) (v .1) .1;
         }
+
+-- and exactly when it breaks no rule, and there is room for its records and their ends
+pub draft-closes-exactly : (day : ProcessDay) (d : List ℕ) (room : ℕ)
+    → ((t : Totals) × (closeOf day d room ≡ Accepted t)) ↔ (LawfulDraft day d × (recordBytes * toWrite (recordsOf d) ≤ room))
+draft-closes-exactly day d room = (sound-and-room day d room, room-and-sound day d room)
+
+-- then with these figures exactly when they are those of the written records
+pub closed-with : (day : ProcessDay) (d : List ℕ) (room : ℕ) (t : Totals)
+    → (closeOf day d room ≡ Accepted t) ↔ (LawfulDraft day d × (recordBytes * toWrite (recordsOf d) ≤ room) × FiguresOf (recordsOf (closedFile d)) t)
+closed-with day d room t = (there, back)
+  where
+    there : closeOf day d room ≡ Accepted t → LawfulDraft day d × (recordBytes * toWrite (recordsOf d) ≤ room) × FiguresOf (recordsOf (closedFile d)) t
+    there e = let v = sound-and-room day d room (t, e) in (v .0, v .1, closed-figures day d room t e)
+
+    back : LawfulDraft day d × (recordBytes * toWrite (recordsOf d) ≤ room) × FiguresOf (recordsOf (closedFile d)) t → closeOf day d room ≡ Accepted t
+    back v = let u = room-and-sound day d room (v .0, v .1) in u .1 ∙ ap Accepted (one-figures _ (u .0) t (closed-figures day d room (u .0) (u .1)) (v .2))
+
+-- a refusal names the first reason in the stated order
+pub close-order : (day : ProcessDay) (d : List ℕ) (room : ℕ) (x : Refusal) → (closeOf day d room ≡ Refused x) ↔ CloseRefusing day d room (Refused x)
+close-order day d room x = (refusing day d room x, refuses-so day d room (Refused x))
 
 -- ---- the lent output
 -- what is written lies over its start, and the bytes behind it stay

@@ -28,7 +28,7 @@ use Rattle.laws.specs.Stripped.{anEnd}
 use Rattle.laws.specs.View.{headed, Good}
 use Rattle.laws.proofs.Sound.{gains-join}
 use Rattle.laws.proofs.Types.{type-of, type-test, last-is}
-use Rattle.laws.proofs.Places.{Test, everywhere, always, implies, mp, known}
+use Rattle.laws.proofs.Follows.{Test, everywhere, always, implies, mp, known}
 use Rattle.laws.proofs.EndsPut.{gain-opens}
 use Rattle.laws.proofs.Bodies.{Cut, good-cut}
 

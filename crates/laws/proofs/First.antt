@@ -1,9 +1,10 @@
--- A refusal names the first fault: in the table, then in the run, then of the whole input.
+-- A refusal names the first fault, and a first fault is refused: in the table, then in the run, then at its end.
 -- Assumes nothing.
 use Prim.Native.Nat.{ℕ, suc, _+_}
 use mathlib.Core.Path.{_≡_, refl, sym, ap, subst, _∙_}
 use mathlib.Core.List.{List, [], _∷_, _++_, append-nil, append-assoc}
 use mathlib.Core.Bool.{Bool, true, false}
+use native.Mathlib.Nat.{add-zero}
 use native.Mathlib.Omega.{arith}
 use lib.ListN.{length}
 use Rattle.choice.specs.Choice.{if_then_else_}
@@ -11,10 +12,11 @@ use Rattle.dates.specs.declared.Window.{Window}
 use Rattle.figures.specs.Totals.{_⊕_}
 use Rattle.figures.specs.declared.totals.Totals.{Totals}
 use Rattle.figures.proofs.Laws.{⊕-assoc, ⊕-none}
+use Rattle.layout.specs.Findings.{orElse}
 use Rattle.layout.specs.Rows.{Row, passes, firstFault, AllHold, rowNumber, rowField}
 use Rattle.layout.specs.declared.Finding.{Finding}
 use Rattle.layout.specs.declared.Finding.the-variants.{Sound, Fault}
-use Rattle.layout.proofs.Laws.{next, stop, ended, all-of-sound}
+use Rattle.layout.proofs.Laws.{next, stop, ended, all-of-sound, sound-of-all, pieces}
 use Rattle.rules.specs.Order.{mayEnd}
 use Rattle.rules.specs.Layouts.{rows}
 use Rattle.rules.specs.Growth.{gain, turn, keys, after}
@@ -36,6 +38,11 @@ accepted-not-refused : (t : Totals) (x : Refusal) → Accepted t ≡ Refused x �
 accepted-not-refused t x e = let z : _≡_ {A = ℕ} 0 1 = cc in omega arith
 
 -- ---- in the table
+-- a piece, and behind it a row that does not hold
+cut : (f : Totals) (ks r : List ℕ) (ws : List Row) (w : Row) (vs : List Row) → passes f ks r w ≡ false
+    → firstFault f ks r (ws ++ (w ∷ vs)) ≡ orElse (firstFault f ks r ws) (Fault (rowNumber w) (rowField w))
+cut f ks r ws w vs h = pieces f ks r ws (w ∷ vs) ∙ ap (orElse (firstFault f ks r ws)) (stop f ks r w vs h)
+
 pub record Broken (f : Totals) (ks r : List ℕ) (ws : List Row) (n k : ℕ) : Type 0 where
   pub held : List Row
   pub row : Row
@@ -155,3 +162,45 @@ module _ (m : Mode) (w : Window) where
           let p : i + 0 + 1 ≡ i + 1 = omega arith in
           subst (λ (v : Verdict). Stops m w (st .file) ks (st .assignment) (r ∷ rs) i v) (ap (λ (j : ℕ). refused n 0 j k) p ∙ with-step (Fault n k) q)
           (stopped 0 n k (at-once (st .file) ks (st .assignment) r rs n k (broken (st .file) ks r _ n k q)))
+
+  -- ---- the other way
+  -- sound records leave the state behind all of them
+  abbrev behindAll : State → List (List ℕ) → State
+  behindAll st rs = record { file = st .file ⊕ gains rs; assignment = turns (st .assignment) rs }
+
+  runs-on : (i : ℕ) (st : State) (ks : List ℕ) (xs ys : List (List ℕ)) → Meets m w (st .file) ks (st .assignment) xs
+      → run m w i st ks (xs ++ ys) ≡ run m w (i + length xs) (behindAll st xs) (ks ++ allKeys xs) ys
+  unfolding run Meets gains turns allKeys stepOf
+  runs-on i st ks [] ys h = rw (add-zero i, ⊕-none (st .file), append-nil ks)
+  runs-on i st ks (x ∷ xs) ys h =
+      let e : i + 1 + length xs ≡ i + suc (length xs) = omega arith in
+      ap (λ (y : Finding). onStep (stepped y (after st x)) i (run m w (i + 1) (after st x) (ks ++ keys x) (xs ++ ys))) (sound-of-all (st .file) ks x _ (h .0))
+      ∙ runs-on (i + 1) (after st x) (ks ++ keys x) xs ys (h .1)
+      ∙ (λ j. run m w (e j) record { file = ⊕-assoc (st .file) (gain x) (gains xs) j; assignment = turns (turn x (st .assignment)) xs } (append-assoc ks (keys x) (allKeys xs) j) ys)
+
+  faulty : (f : Totals) (ks : List ℕ) (a : Assignment) (rs : List (List ℕ)) (j n k : ℕ) (v : FirstFault m w f ks a rs j n k)
+      → firstFault (f ⊕ gains (v .before)) (ks ++ allKeys (v .before)) (v .here) (rows m w (turns a (v .before)) (v .here)) ≡ Fault n k
+  faulty f ks a rs j n k v =
+      ap (firstFault _ _ (v .here)) (v .table)
+      ∙ cut _ _ (v .here) (v .held) (v .row) (v .unseen) (v .fails)
+      ∙ ap (λ (y : Finding). orElse y (Fault (rowNumber (v .row)) (rowField (v .row)))) (sound-of-all _ _ (v .here) (v .held) (v .hold))
+      ∙ (λ i. Fault (v .number i) (v .field i))
+
+  stops-here : (i : ℕ) (st : State) (ks r : List ℕ) (rs : List (List ℕ)) (n k : ℕ) → firstFault (st .file) ks r (rows m w (st .assignment) r) ≡ Fault n k
+      → run m w i st ks (r ∷ rs) ≡ refused n 0 (i + 1) k
+  unfolding run stepOf
+  stops-here i st ks r rs n k e = ap (λ (y : Finding). onStep (stepped y (after st r)) i (run m w (i + 1) (after st r) (ks ++ keys r) rs)) e
+
+  runs-to-end : (i : ℕ) (st : State) (ks : List ℕ) (rs : List (List ℕ)) → Meets m w (st .file) ks (st .assignment) rs → run m w i st ks rs ≡ atEnd m (i + length rs) (behindAll st rs)
+  unfolding run
+  runs-to-end i st ks rs h = ap (run m w i st ks) (sym (append-nil rs)) ∙ runs-on i st ks rs [] h
+
+  pub stops-so : (i : ℕ) (st : State) (ks : List ℕ) (rs : List (List ℕ)) (v : Verdict) → Stops m w (st .file) ks (st .assignment) rs i v → run m w i st ks rs ≡ v
+  unfolding atEnd
+  stops-so i st ks rs v (stopped j n k f) =
+      ap (run m w i st ks) (f .whole)
+      ∙ runs-on i st ks (f .before) (f .here ∷ f .behind) (f .meets)
+      ∙ stops-here (i + length (f .before)) (behindAll st (f .before)) (ks ++ allKeys (f .before)) (f .here) (f .behind) n k (faulty (st .file) ks (st .assignment) rs j n k f)
+      ∙ ap (λ (p : ℕ). refused n 0 (i + p + 1) k) (f .place)
+  stops-so i st ks rs v (cut-off h p) = runs-to-end i st ks rs h ∙ rw p
+  stops-so i st ks rs v (ungiven h p g) = runs-to-end i st ks rs h ∙ rw (p, g)

@@ -11,6 +11,7 @@ use Rattle.dates.specs.declared.Window.{Window}
 use Rattle.dates.specs.declared.Opening.the-variants.{Open}
 use Rattle.fields.specs.Bytes.{part}
 use Rattle.figures.specs.declared.totals.Totals.{Totals}
+use Rattle.limits.specs.Limits.{recordBytes}
 use Rattle.rules.specs.Run.{recordsOf, checkOf}
 use Rattle.rules.specs.declared.Verdict.{Verdict}
 use Rattle.rules.specs.declared.Verdict.the-variants.{Accepted}
@@ -19,7 +20,7 @@ use Rattle.operations.specs.Joining.{sender, both, joinOf, joinedFile}
 use Rattle.operations.specs.Parting.{bodyOf}
 use Rattle.laws.specs.Meets.{allKeys}
 use Rattle.laws.specs.View.{figuresOf, made}
-use Rattle.laws.specs.Joinable.{In, keysOf, BothAccepted, Joinable, Framed}
+use Rattle.laws.specs.Joinable.{In, keysOf, BothAccepted, Joinable, Framed, roomFor}
 use Rattle.laws.proofs.Sound.{keys-join}
 use Rattle.laws.proofs.EndsPut.{gains-records}
 use Rattle.laws.proofs.View.{view-accepted}
@@ -32,20 +33,20 @@ module _ (w : Window) (b : List ℕ) (t : Totals) (v : View w b t) where
   pub view-checks : (day : ProcessDay) → windowOf day ≡ Open w → checkOf day b ≡ Accepted t
   view-checks day o = ap (checkOf day) (v .bytes) ∙ view-accepted day w (v .head) (v .body) o (v .good) ∙ ap Accepted (sym (v .figures))
 
-  pub view-length : length b ≡ 81 * t .records .0
-  view-length = ap length (v .bytes) ∙ file-counted w (v .head) (v .body) (v .good) ∙ ap (λ (x : Totals). 81 * x .records .0) (sym (v .figures))
+  pub view-length : length b ≡ recordBytes * t .records .0
+  view-length = ap length (v .bytes) ∙ file-counted w (v .head) (v .body) (v .good) ∙ ap (λ (x : Totals). recordBytes * x .records .0) (sym (v .figures))
 
   pub view-keys : keysOf b ≡ allKeys (v .body)
   view-keys = ap keysOf (v .bytes) ∙ file-keys w (v .head) (v .body) (v .good)
 
-  pub view-sender : sender b ≡ part 9 16 (v .head)
+  pub view-sender : sender b ≡ sender (v .head)
   view-sender = ap sender (v .bytes) ∙ file-sender w (v .head) (v .body) (v .good)
 
   pub view-body : bodyOf b ≡ v .body
   view-body = ap bodyOf (v .bytes) ∙ body-records w (v .head) (v .body) (v .good)
 
-  pub view-head : take 81 b ≡ v .head
-  view-head = ap (take 81) (v .bytes) ∙ file-head w (v .head) (v .body) (v .good)
+  pub view-head : take recordBytes b ≡ v .head
+  view-head = ap (take recordBytes) (v .bytes) ∙ file-head w (v .head) (v .body) (v .good)
 
   pub view-framed : Framed b t
   unfolding made
@@ -57,9 +58,13 @@ module _ (w : Window) (b : List ℕ) (t : Totals) (v : View w b t) where
   pub view-records : t .records .0 ≡ length (v .body) + 2
   view-records = ap (λ (x : Totals). x .records .0) (v .figures) ∙ omega (arith, gains-records (v .body))
 
+-- two files fill the room that they need
+pub fills : (w : Window) (a b : List ℕ) (s t : Totals) → View w a s → View w b t → recordBytes * both s t .records .0 ≡ roomFor a b
+fills w a b s t va vb = omega (arith, view-length w a s va, view-length w b t vb)
+
 -- ---- two files that may be joined
 -- bodies that go together, under one sender
-pub joinable : (w : Window) (a b : List ℕ) (s t : Totals) (va : View w a s) (vb : View w b t) → part 9 16 (va .head) ≡ part 9 16 (vb .head) → Together (va .body) (vb .body) → Joinable a b s t
+pub joinable : (w : Window) (a b : List ℕ) (s t : Totals) (va : View w a s) (vb : View w b t) → sender (va .head) ≡ sender (vb .head) → Together (va .body) (vb .body) → Joinable a b s t
 joinable w a b s t va vb e g =
     record {
       senders = view-sender w a s va ∙ e ∙ sym (view-sender w b t vb);
@@ -105,21 +110,21 @@ module _ (w : Window) (a b : List ℕ) (s t : Totals) (va : View w a s) (vb : Vi
       ∙ ap₂ _++_ (sym (view-keys w a s va)) (sym (view-keys w b t vb))
 
   -- the first file's record 10, the records of both files' assignments, one 89
-  pub joined-records : recordsOf (joinedFile a b (both s t)) ≡ take 81 a ∷ (bodyOf a ++ (bodyOf b ++ (end89 (both s t) ∷ [])))
+  pub joined-records : recordsOf (joinedFile a b (both s t)) ≡ take recordBytes a ∷ (bodyOf a ++ (bodyOf b ++ (end89 (both s t) ∷ [])))
   joined-records =
       let c = joinedFile a b (both s t) in
-      let h : take 81 c ≡ take 81 a = view-head w c (both s t) joined-view ∙ sym (view-head w a s va) in
+      let h : take recordBytes c ≡ take recordBytes a = view-head w c (both s t) joined-view ∙ sym (view-head w a s va) in
       let x : bodyOf c ≡ bodyOf a ++ bodyOf b = view-body w c (both s t) joined-view ∙ ap₂ _++_ (sym (view-body w a s va)) (sym (view-body w b t vb)) in
       view-framed w c (both s t) joined-view
       ∙ (λ i. h i ∷ (x i ++ (end89 (both s t) ∷ [])))
-      ∙ ap (λ (rs : List (List ℕ)). take 81 a ∷ rs) (append-assoc (bodyOf a) (bodyOf b) (end89 (both s t) ∷ []))
+      ∙ ap (λ (rs : List (List ℕ)). take recordBytes a ∷ rs) (append-assoc (bodyOf a) (bodyOf b) (end89 (both s t) ∷ []))
 
 -- ---- accepted, and what that means
 module _ (day : ProcessDay) (a b : List ℕ) (room : ℕ) (s t : Totals) (c : BothAccepted day a b s t) where
   -- of two accepted files
   pub record Accepting (u : Totals) : Type 0 where
     pub joinable : Joinable a b s t
-    pub fits : 81 * both s t .records .0 ≤ room
+    pub fits : recordBytes * both s t .records .0 ≤ room
     pub figures : u ≡ both s t
 
   pub accepting : (u : Totals) → joinOf day a b room ≡ Accepted u → Accepting u
@@ -129,7 +134,7 @@ module _ (day : ProcessDay) (a b : List ℕ) (room : ℕ) (s t : Totals) (c : Bo
       go v (joins j h) e = record { joinable = j; fits = h; figures = cc }
       go v (refuses x r h) e = absurd (let z : _≡_ {A = ℕ} 0 1 = cc in omega arith)
 
-  pub accepts : Joinable a b s t → 81 * both s t .records .0 ≤ room → joinOf day a b room ≡ Accepted (both s t)
+  pub accepts : Joinable a b s t → recordBytes * both s t .records .0 ≤ room → joinOf day a b room ≡ Accepted (both s t)
   accepts j h = go (joinOf day a b room) (outcome day a b room s t c)
     where
       go : (v : Verdict) → Outcome day a b room s t v → v ≡ Accepted (both s t)

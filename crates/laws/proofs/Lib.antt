@@ -6,10 +6,11 @@ pub mod Demand2
 pub mod Types
 pub mod Bytes
 pub mod EndRecords
-pub mod Places
+pub mod Follows
 pub mod EndsPut
 pub mod Closes
 pub mod Strips
+pub mod Weighs
 pub mod Closing
 pub mod View
 pub mod Keys
@@ -23,3 +24,4 @@ pub mod Cuts
 pub mod Parting
 pub mod OneAnswer
 pub mod Slices
+pub mod Tells

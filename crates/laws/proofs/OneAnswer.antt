@@ -6,7 +6,7 @@ use mathlib.Core.List.{List}
 use Rattle.dates.specs.declared.ProcessDay.{ProcessDay}
 use Rattle.rules.specs.declared.Verdict.{Verdict}
 use Rattle.operations.specs.declared.Parting.{Parting}
-use Rattle.operations.specs.Promises.{CheckPromise, ClosePromise, JoinPromise, PartPromise}
+use Rattle.operations.specs.Promises.{CheckPromise, ClosePromise, JoinPromise, PartPromise, CheckNumbers, CloseNumbers, JoinNumbers, PartNumbers}
 
 module _ (day : ProcessDay) (file : List ℕ) (x y : Verdict) where
   pub one-answer-check : CheckPromise day file x → CheckPromise day file y → x ≡ y
@@ -23,3 +23,20 @@ module _ (day : ProcessDay) (first second out : List ℕ) (x y : Verdict) (xs ys
 module _ (day : ProcessDay) (file : List ℕ) (k : ℕ) (out1 out2 : List ℕ) (x y : Parting) (xs1 xs2 ys1 ys2 : List ℕ) where
   pub one-answer-part : PartPromise day file k out1 out2 x xs1 xs2 → PartPromise day file k out1 out2 y ys1 ys2 → (x ≡ y) × (xs1 ≡ ys1) × (xs2 ≡ ys2)
   one-answer-part p q = (p .answers ∙ sym (q .answers), p .leaves-first ∙ sym (q .leaves-first), p .leaves-second ∙ sym (q .leaves-second))
+
+-- ---- and of each function for a program in C or Rust, two rows of numbers
+module _ (day : ProcessDay) (file x y : List ℕ) where
+  pub one-answer-pay-check : CheckNumbers day file x → CheckNumbers day file y → x ≡ y
+  one-answer-pay-check p q = p .answers ∙ sym (q .answers)
+
+module _ (day : ProcessDay) (draft out x y xs ys : List ℕ) where
+  pub one-answer-pay-close : CloseNumbers day draft out x xs → CloseNumbers day draft out y ys → (x ≡ y) × (xs ≡ ys)
+  one-answer-pay-close p q = (p .answers ∙ sym (q .answers), p .leaves ∙ sym (q .leaves))
+
+module _ (day : ProcessDay) (first second out x y xs ys : List ℕ) where
+  pub one-answer-pay-join : JoinNumbers day first second out x xs → JoinNumbers day first second out y ys → (x ≡ y) × (xs ≡ ys)
+  one-answer-pay-join p q = (p .answers ∙ sym (q .answers), p .leaves ∙ sym (q .leaves))
+
+module _ (day : ProcessDay) (file : List ℕ) (k : ℕ) (out1 out2 x y xs1 xs2 ys1 ys2 : List ℕ) where
+  pub one-answer-pay-part : PartNumbers day file k out1 out2 x xs1 xs2 → PartNumbers day file k out1 out2 y ys1 ys2 → (x ≡ y) × (xs1 ≡ ys1) × (xs2 ≡ ys2)
+  one-answer-pay-part p q = (p .answers ∙ sym (q .answers), p .leaves-first ∙ sym (q .leaves-first), p .leaves-second ∙ sym (q .leaves-second))

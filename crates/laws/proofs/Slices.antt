@@ -1,4 +1,4 @@
--- Parts of an accepted file as a program takes them out: its assignments as one span of bytes.
+-- Parts of an accepted file as a program takes them out: its assignments as one span of bytes, between its first and its last record.
 -- Assumes nothing.
 use Prim.Native.Nat.{ℕ, zero, suc, _-_, _≤_}
 use mathlib.Core.Path.{_≡_, sym, ap, _∙_}

@@ -1,4 +1,4 @@
--- The run accepts exactly where every rule is met and the end may come; it splits over joined lists; and it names the first fault.
+-- The run accepts exactly where every rule is met and the end may come; and what records add and meet splits over joined lists.
 -- Assumes nothing.
 use Prim.Native.Nat.{ℕ, _+_}
 use mathlib.Core.Path.{_≡_, refl, sym, ap, _∙_}

@@ -30,7 +30,7 @@ use Rattle.laws.specs.Stripped.{anEnd, strip}
 use Rattle.laws.proofs.Frame.{fits-on, fitted}
 use Rattle.laws.proofs.Types.{type-of, code-is, end-is}
 use Rattle.laws.proofs.EndRecords.{its88, is-88, is-89}
-use Rattle.laws.proofs.Places.{Stands, in-draft, known, in-file, at-88, no-89, no-end, behind-88, behind-89}
+use Rattle.laws.proofs.Follows.{Stands, in-draft, known, in-file, at-88, no-89, no-end, behind-88, behind-89}
 use Rattle.laws.proofs.EndsPut.{put-none, put-88, put-last, kept, taken-out}
 use Rattle.laws.proofs.Closes.{met-88, turns-88, table-20, anew, fits-counted, recounted}
 

@@ -1,24 +1,24 @@
 -- Three accepted files joined, the first two first or the last two first: what either asks is the same, and so is what it gives.
 -- Assumes nothing.
-use Prim.Native.Nat.{ℕ, _+_, _*_, _≤_}
+use Prim.Native.Nat.{ℕ, _*_, _≤_}
 use mathlib.Core.Path.{_≡_, sym, ap, subst, _∙_}
 use mathlib.Core.Logic.{⊎-elim}
 use mathlib.Core.List.{List, append-assoc}
 use native.Mathlib.Omega.{arith}
-use lib.ListN.{length}
 use Rattle.dates.specs.Windows.{windowOf}
 use Rattle.dates.specs.declared.ProcessDay.{ProcessDay}
 use Rattle.dates.specs.declared.Window.{Window}
 use Rattle.dates.specs.declared.Opening.the-variants.{Open}
 use Rattle.figures.specs.declared.totals.Totals.{Totals}
+use Rattle.limits.specs.Limits.{recordBytes}
 use Rattle.rules.specs.Run.{checkOf}
 use Rattle.rules.specs.declared.Verdict.the-variants.{Accepted}
-use Rattle.operations.specs.Joining.{both, joinOf, joinedFile}
+use Rattle.operations.specs.Joining.{both, joinedFile}
 use Rattle.laws.specs.View.{figuresOf}
-use Rattle.laws.specs.Joinable.{In, keysOf, Joinable, FirstTwo, LastTwo, Associative}
+use Rattle.laws.specs.Joinable.{In, keysOf, Joinable, roomFor, JoinedTo, FirstTwo, LastTwo, Associative}
 use Rattle.laws.proofs.Keys.{in-join, in-left, in-right}
 use Rattle.laws.proofs.Made.{fileOf, View}
-use Rattle.laws.proofs.Joined.{view-checks, view-length, view-records, file-joined, figures-joined, joined-view, joined-sender, joined-keys, accepting, accepts}
+use Rattle.laws.proofs.Joined.{view-checks, view-records, fills, file-joined, figures-joined, joined-view, joined-sender, joined-keys, accepting, accepts}
 
 module _ (w : Window) (a b c : List ℕ) (s t r : Totals) (va : View w a s) (vb : View w b t) (vc : View w c r) where
   -- what lets the first two be joined, and then the third
@@ -100,8 +100,7 @@ module _ (w : Window) (a b c : List ℕ) (s t r : Totals) (va : View w a s) (vb 
       ∙ ap (fileOf (va .head)) (append-assoc (va .body) (vb .body) (vc .body))
       ∙ sym (file-joined w a (joinedFile b c (both t r)) s (both t r) va bc (q .outer))
 
-module _ (day : ProcessDay) (w : Window) (a b c : List ℕ) (s t r : Totals) (room : ℕ) (o : windowOf day ≡ Open w) (va : View w a s) (vb : View w b t) (vc : View w c r)
-    (fits : length a + length b + length c ≤ room) where
+module _ (day : ProcessDay) (w : Window) (a b c : List ℕ) (s t r : Totals) (o : windowOf day ≡ Open w) (va : View w a s) (vb : View w b t) (vc : View w c r) where
   -- the figures that each joining answers are those of what it is given
   record FirstTold (inner u : Totals) : Type 0 where
     left : Left w a b c s t r va vb vc
@@ -128,40 +127,41 @@ module _ (day : ProcessDay) (w : Window) (a b c : List ℕ) (s t r : Totals) (ro
   accepted-bc : Joinable b c t r → checkOf day (joinedFile b c (both t r)) ≡ Accepted (both t r)
   accepted-bc j = view-checks w (joinedFile b c (both t r)) (both t r) (joined-view w b c t r vb vc j) day o
 
-  room-all : 81 * (s .records .0 + t .records .0 + r .records .0) ≤ room
-  room-all = omega (arith, view-length w a s va, view-length w b t vb, view-length w c r vc, fits)
+  -- what is joined has room
+  has-room : (a b : List ℕ) (s t : Totals) → View w a s → View w b t → recordBytes * both s t .records .0 ≤ roomFor a b
+  has-room a b s t va vb = omega (arith, fills w a b s t va vb)
 
-  first-told : (u : Totals) (l : FirstTwo day a b c room u) → FirstTold (l .inner) u
+  first-told : (u : Totals) (l : FirstTwo day a b c u) → FirstTold (l .inner) u
   first-told u l =
-      let x = accepting day a b room s t record { first = accepted-a; second = accepted-b } (l .inner) (l .one) in
-      let two = subst (λ (i : Totals). joinOf day (joinedFile a b i) c room ≡ Accepted u) (x .figures) (l .two) in
-      let y = accepting day (joinedFile a b (both s t)) c room (both s t) r record { first = accepted-ab (x .joinable); second = accepted-c } u two in
+      let x = accepting day a b (roomFor a b) s t record { first = accepted-a; second = accepted-b } (l .inner) (l .one) in
+      let two = subst (λ (i : Totals). JoinedTo day (joinedFile a b i) c u) (x .figures) (l .two) in
+      let y = accepting day (joinedFile a b (both s t)) c (roomFor (joinedFile a b (both s t)) c) (both s t) r record { first = accepted-ab (x .joinable); second = accepted-c } u two in
       record { left = record { inner = x .joinable; outer = y .joinable }; inner-is = x .figures; outer-is = y .figures }
 
-  last-told : (u : Totals) (l : LastTwo day a b c room u) → LastTold (l .inner) u
+  last-told : (u : Totals) (l : LastTwo day a b c u) → LastTold (l .inner) u
   last-told u l =
-      let x = accepting day b c room t r record { first = accepted-b; second = accepted-c } (l .inner) (l .one) in
-      let two = subst (λ (i : Totals). joinOf day a (joinedFile b c i) room ≡ Accepted u) (x .figures) (l .two) in
-      let y = accepting day a (joinedFile b c (both t r)) room s (both t r) record { first = accepted-a; second = accepted-bc (x .joinable) } u two in
+      let x = accepting day b c (roomFor b c) t r record { first = accepted-b; second = accepted-c } (l .inner) (l .one) in
+      let two = subst (λ (i : Totals). JoinedTo day a (joinedFile b c i) u) (x .figures) (l .two) in
+      let y = accepting day a (joinedFile b c (both t r)) (roomFor a (joinedFile b c (both t r))) s (both t r) record { first = accepted-a; second = accepted-bc (x .joinable) } u two in
       record { right = record { inner = x .joinable; outer = y .joinable }; inner-is = x .figures; outer-is = y .figures }
 
-  first-two : Left w a b c s t r va vb vc → FirstTwo day a b c room (both (both s t) r)
+  first-two : Left w a b c s t r va vb vc → FirstTwo day a b c (both (both s t) r)
   first-two l =
       record {
         inner = both s t;
-        one = accepts day a b room s t record { first = accepted-a; second = accepted-b } (l .inner) (omega (arith, room-all));
-        two = accepts day (joinedFile a b (both s t)) c room (both s t) r record { first = accepted-ab (l .inner); second = accepted-c } (l .outer) (omega (arith, room-all));
+        one = accepts day a b (roomFor a b) s t record { first = accepted-a; second = accepted-b } (l .inner) (has-room a b s t va vb);
+        two = accepts day (joinedFile a b (both s t)) c (roomFor (joinedFile a b (both s t)) c) (both s t) r record { first = accepted-ab (l .inner); second = accepted-c } (l .outer) (has-room (joinedFile a b (both s t)) c (both s t) r (joined-view w a b s t va vb (l .inner)) vc);
       }
 
-  last-two : Right w a b c s t r va vb vc → LastTwo day a b c room (both s (both t r))
+  last-two : Right w a b c s t r va vb vc → LastTwo day a b c (both s (both t r))
   last-two l =
       record {
         inner = both t r;
-        one = accepts day b c room t r record { first = accepted-b; second = accepted-c } (l .inner) (omega (arith, room-all));
-        two = accepts day a (joinedFile b c (both t r)) room s (both t r) record { first = accepted-a; second = accepted-bc (l .inner) } (l .outer) (omega (arith, room-all));
+        one = accepts day b c (roomFor b c) t r record { first = accepted-b; second = accepted-c } (l .inner) (has-room b c t r vb vc);
+        two = accepts day a (joinedFile b c (both t r)) (roomFor a (joinedFile b c (both t r))) s (both t r) record { first = accepted-a; second = accepted-bc (l .inner) } (l .outer) (has-room a (joinedFile b c (both t r)) s (both t r) va (joined-view w b c t r vb vc (l .inner)));
       }
 
-  pub associates : Associative day a b c room
+  pub associates : Associative day a b c
   associates =
       record {
         alike = λ u. (there u, back u);
@@ -174,14 +174,14 @@ module _ (day : ProcessDay) (w : Window) (a b c : List ℕ) (s t r : Totals) (ro
             ∙ (λ i. joinedFile a (joinedFile b c (sym (y .inner-is) i)) (sym (y .outer-is) i));
       }
     where
-      there : (u : Totals) → FirstTwo day a b c room u → LastTwo day a b c room u
+      there : (u : Totals) → FirstTwo day a b c u → LastTwo day a b c u
       there u l =
           let x = first-told u l in
           let q = to-right w a b c s t r va vb vc (x .left) in
-          subst (LastTwo day a b c room) (sym (x .outer-is ∙ same-figures w a b c s t r va vb vc (x .left) q)) (last-two q)
+          subst (LastTwo day a b c) (sym (x .outer-is ∙ same-figures w a b c s t r va vb vc (x .left) q)) (last-two q)
 
-      back : (u : Totals) → LastTwo day a b c room u → FirstTwo day a b c room u
+      back : (u : Totals) → LastTwo day a b c u → FirstTwo day a b c u
       back u l =
           let x = last-told u l in
           let q = to-left w a b c s t r va vb vc (x .right) in
-          subst (FirstTwo day a b c room) (same-figures w a b c s t r va vb vc q (x .right) ∙ sym (x .outer-is)) (first-two q)
+          subst (FirstTwo day a b c) (same-figures w a b c s t r va vb vc q (x .right) ∙ sym (x .outer-is)) (first-two q)

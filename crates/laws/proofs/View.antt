@@ -35,7 +35,7 @@ use Rattle.laws.proofs.Demand2.{accepting, accepts}
 use Rattle.laws.proofs.Types.{last-is}
 use Rattle.laws.proofs.Bytes.{sized-join, sized-split, whole, whole-length, whole-bytes, record-count, records-again, bytes-again, sized-records}
 use Rattle.laws.proofs.EndRecords.{Small, sized-89, kind-89, holds-89, is-89}
-use Rattle.laws.proofs.Places.{known, may-89, before-89, first-10, last-89}
+use Rattle.laws.proofs.Follows.{known, may-89, before-89, first-10, last-89}
 use Rattle.laws.proofs.EndsPut.{gain-89, gains-records}
 use Rattle.laws.proofs.Closes.{below-behind, small-89}
 

@@ -11,9 +11,8 @@ use Rattle.dates.specs.declared.Window.{Window}
 use Rattle.dates.specs.declared.Opening.the-variants.{Open, NoDay}
 use Rattle.figures.specs.Figures.{limitWide}
 use Rattle.figures.specs.declared.totals.Totals.{Totals}
-use Rattle.limits.specs.Limits.{mostAssignments}
+use Rattle.limits.specs.Limits.{recordBytes, mostRecords, mostAssignments}
 use Rattle.rules.specs.Growth.{keys}
-use Rattle.limits.specs.Limits.{mostRecords}
 use Rattle.rules.specs.Refusals.{refused}
 use Rattle.rules.specs.Run.{recordsOf, checkOf}
 use Rattle.rules.specs.declared.Refusal.{Refusal}
@@ -71,7 +70,7 @@ pub record FirstShared (ks : List ℕ) (rs : List (List ℕ)) (i : ℕ) : Type 0
   pub there : In key ks
   pub brought : In key (keys here)
 
--- why joining refuses, and with what, in the stated order: each reason stands behind all before it
+-- why joining refuses, and with what, in the stated order: each reason comes after all before it
 pub data JoinRefusing (day : ProcessDay) (a b : List ℕ) (room : ℕ) : Verdict → Type 0 where
   no-day : windowOf day ≡ NoDay → JoinRefusing day a b room (refused 1 0 0 0)
   first-file : (w : Window) (x : Refusal) → windowOf day ≡ Open w → checkOf day a ≡ Refused x
@@ -87,7 +86,7 @@ pub data JoinRefusing (day : ProcessDay) (a b : List ℕ) (room : ℕ) : Verdict
       → mostAssignments < s .assignments .0 + t .assignments .0 → JoinRefusing day a b room (refused 16 0 0 0)
   large-sum : (s t : Totals) → BothAccepted day a b s t → sender a ≡ sender b → Apart (keysOf a) (keysOf b) → s .records .0 + t .records .0 - 2 ≤ mostRecords
       → s .assignments .0 + t .assignments .0 ≤ mostAssignments → limitWide .0 < s .sum .0 + t .sum .0 → JoinRefusing day a b room (refused 13 0 0 0)
-  short-output : (s t : Totals) → BothAccepted day a b s t → Joinable a b s t → room < 81 * both s t .records .0 → JoinRefusing day a b room (refused 19 0 0 0)
+  short-output : (s t : Totals) → BothAccepted day a b s t → Joinable a b s t → room < recordBytes * both s t .records .0 → JoinRefusing day a b room (refused 19 0 0 0)
 
 -- the figures of a joined file: those of both files together, and those of its own records
 pub record AddedUp (day : ProcessDay) (a b : List ℕ) (u : Totals) : Type 0 where
@@ -100,7 +99,7 @@ pub record AddedUp (day : ProcessDay) (a b : List ℕ) (u : Totals) : Type 0 whe
 
 -- the records of an accepted file: its record 10, those of its assignments, and its 89
 abbrev pub Framed : List ℕ → Totals → Type 0
-Framed b t = recordsOf b ≡ take 81 b ∷ (bodyOf b ++ (end89 t ∷ []))
+Framed b t = recordsOf b ≡ take recordBytes b ∷ (bodyOf b ++ (end89 t ∷ []))
 
 -- the records of a joined file: the first file's record 10, those of both files' assignments, and one 89
 pub record Keeps (a b : List ℕ) (u : Totals) : Type 0 where
@@ -108,23 +107,31 @@ pub record Keeps (a b : List ℕ) (u : Totals) : Type 0 where
   pub second : Totals
   pub first-framed : Framed a first
   pub second-framed : Framed b second
-  pub records : recordsOf (joinedFile a b u) ≡ take 81 a ∷ (bodyOf a ++ (bodyOf b ++ (end89 u ∷ [])))
+  pub records : recordsOf (joinedFile a b u) ≡ take recordBytes a ∷ (bodyOf a ++ (bodyOf b ++ (end89 u ∷ [])))
+
+-- the room that two files need when they are joined: all of both but the first's 89 and the second's record 10
+abbrev pub roomFor : List ℕ → List ℕ → ℕ
+roomFor a b = length a + length b - 2 * recordBytes
+
+-- joined into an output that is just as long as what is joined
+abbrev pub JoinedTo : ProcessDay → List ℕ → List ℕ → Totals → Type 0
+JoinedTo day a b u = joinOf day a b (roomFor a b) ≡ Accepted u
 
 -- three files joined, the first two first; a refusal of either joining is a refusal
-pub record FirstTwo (day : ProcessDay) (a b c : List ℕ) (room : ℕ) (u : Totals) : Type 0 where
+pub record FirstTwo (day : ProcessDay) (a b c : List ℕ) (u : Totals) : Type 0 where
   pub inner : Totals
-  pub one : joinOf day a b room ≡ Accepted inner
-  pub two : joinOf day (joinedFile a b inner) c room ≡ Accepted u
+  pub one : JoinedTo day a b inner
+  pub two : JoinedTo day (joinedFile a b inner) c u
 
 -- and the last two first
-pub record LastTwo (day : ProcessDay) (a b c : List ℕ) (room : ℕ) (u : Totals) : Type 0 where
+pub record LastTwo (day : ProcessDay) (a b c : List ℕ) (u : Totals) : Type 0 where
   pub inner : Totals
-  pub one : joinOf day b c room ≡ Accepted inner
-  pub two : joinOf day a (joinedFile b c inner) room ≡ Accepted u
+  pub one : JoinedTo day b c inner
+  pub two : JoinedTo day a (joinedFile b c inner) u
 
 -- either way alike: joined or refused, and where they are joined the same figures and the same bytes
-pub record Associative (day : ProcessDay) (a b c : List ℕ) (room : ℕ) : Type 0 where
-  pub alike : (u : Totals) → FirstTwo day a b c room u ↔ LastTwo day a b c room u
-  pub figures : (u v : Totals) → FirstTwo day a b c room u → LastTwo day a b c room v → u ≡ v
-  pub bytes : (u v : Totals) (l : FirstTwo day a b c room u) (r : LastTwo day a b c room v)
+pub record Associative (day : ProcessDay) (a b c : List ℕ) : Type 0 where
+  pub alike : (u : Totals) → FirstTwo day a b c u ↔ LastTwo day a b c u
+  pub figures : (u v : Totals) → FirstTwo day a b c u → LastTwo day a b c v → u ≡ v
+  pub bytes : (u v : Totals) (l : FirstTwo day a b c u) (r : LastTwo day a b c v)
       → joinedFile (joinedFile a b (l .inner)) c u ≡ joinedFile a (joinedFile b c (r .inner)) v

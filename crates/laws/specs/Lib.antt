@@ -2,6 +2,8 @@ pub mod Meets
 pub mod Plain
 pub mod Fits
 pub mod Stripped
+pub mod Closable
 pub mod View
 pub mod Joinable
 pub mod Partable
+pub mod Tells

@@ -16,7 +16,7 @@ use Rattle.rules.specs.Order.{mayEnd}
 use Rattle.rules.specs.Layouts.{rows}
 use Rattle.rules.specs.Growth.{gain, turn, keys, start}
 unfoldable pub use Rattle.rules.specs.Growth.{gains, turns, allKeys}
-use Rattle.limits.specs.Limits.{mostRecords}
+use Rattle.limits.specs.Limits.{recordBytes, mostRecords}
 use Rattle.rules.specs.Refusals.{refused}
 use Rattle.rules.specs.Run.{ended, recordsOf, badLength}
 use Rattle.rules.specs.declared.Assignment.{Assignment}
@@ -39,11 +39,11 @@ pub record Lawful (day : ProcessDay) (b : List ℕ) : Type 0 where
   pub window : Window
   pub opened : windowOf day ≡ Open window
   pub lengthy : badLength b ≡ false
-  pub few : length b / 81 ≤ mostRecords
+  pub few : length b / recordBytes ≤ mostRecords
   pub meets : Meets File window none [] (start .assignment) (recordsOf b)
   pub ends : Ends File (turns (start .assignment) (recordsOf b))
 
--- the first fault behind a state: i records before it meet every rule, the rows before it hold, and its row does not
+-- the first fault after a state: i records before it meet every rule, the rows before it hold, and its row does not
 pub record FirstFault (m : Mode) (w : Window) (f : Totals) (ks : List ℕ) (a : Assignment) (rs : List (List ℕ)) (i n k : ℕ) : Type 0 where
   pub before : List (List ℕ)
   pub here : List ℕ
@@ -64,9 +64,9 @@ pub record FirstFault (m : Mode) (w : Window) (f : Totals) (ks : List ℕ) (a : 
 pub data Refusing (day : ProcessDay) (b : List ℕ) : Verdict → Type 0 where
   wrong-day : windowOf day ≡ NoDay → Refusing day b (refused 1 0 0 0)
   wrong-length : (w : Window) → windowOf day ≡ Open w → badLength b ≡ true → Refusing day b (refused 2 0 0 0)
-  too-many : (w : Window) → windowOf day ≡ Open w → badLength b ≡ false → mostRecords < length b / 81 → Refusing day b (refused 3 0 0 0)
-  at-record : (w : Window) (i n k : ℕ) → windowOf day ≡ Open w → badLength b ≡ false → length b / 81 ≤ mostRecords
+  too-many : (w : Window) → windowOf day ≡ Open w → badLength b ≡ false → mostRecords < length b / recordBytes → Refusing day b (refused 3 0 0 0)
+  at-record : (w : Window) (i n k : ℕ) → windowOf day ≡ Open w → badLength b ≡ false → length b / recordBytes ≤ mostRecords
       → FirstFault File w none [] (start .assignment) (recordsOf b) i n k → Refusing day b (refused n 0 (i + 1) k)
-  at-end : (w : Window) → windowOf day ≡ Open w → badLength b ≡ false → length b / 81 ≤ mostRecords
+  at-end : (w : Window) → windowOf day ≡ Open w → badLength b ≡ false → length b / recordBytes ≤ mostRecords
       → Meets File w none [] (start .assignment) (recordsOf b) → mayEnd File (turns (start .assignment) (recordsOf b)) ≡ false
       → Refusing day b (refused 6 0 (length (recordsOf b) + 1) 0)

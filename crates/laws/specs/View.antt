@@ -10,7 +10,7 @@ use Rattle.layout.specs.Rows.{AllHold}
 use Rattle.rules.specs.Codes.{kindOf}
 use Rattle.rules.specs.Layouts.{rows}
 use Rattle.rules.specs.Growth.{nothingYet, start}
-use Rattle.limits.specs.Limits.{mostRecords}
+use Rattle.limits.specs.Limits.{recordBytes, mostRecords}
 use Rattle.rules.specs.declared.Assignment.{Assignment}
 use Rattle.rules.specs.declared.Kind.the-variants.{R10, R88}
 use Rattle.rules.specs.declared.Mode.the-variants.{File}
@@ -21,18 +21,18 @@ use Rattle.laws.specs.Meets.{turns, Meets}
 -- every record has 81 bytes
 unfoldable pub Sized : List (List ℕ) → Type 0
 Sized [] = Unit {0}
-Sized (r ∷ rs) = (length r ≡ 81) × Sized rs
+Sized (r ∷ rs) = (length r ≡ recordBytes) × Sized rs
 
--- the assignment at hand behind a record 10: none
+-- the assignment at hand after a record 10: none
 abbrev pub headed : Assignment
 headed = nothingYet R10
 
--- a record 10 that meets the rules, and behind it a body of whole assignments that meets them
+-- a record 10 that meets the rules, and after it a body of whole assignments that meets them
 pub record Good (w : Window) (head : List ℕ) (body : List (List ℕ)) : Type 0 where
   pub type : kindOf head ≡ R10
   pub head-holds : AllHold none [] head (rows File w (start .assignment) head)
   pub meets : Meets File w oneRecord [] headed body
   pub ended : turns headed body .last ≡ R88
   pub few : length body + 2 ≤ mostRecords
-  pub head-sized : length head ≡ 81
+  pub head-sized : length head ≡ recordBytes
   pub sized : Sized body

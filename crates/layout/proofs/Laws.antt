@@ -1,26 +1,32 @@
 -- No fault exactly when every row holds; tables in pieces; rows taken one by one, as the code demands them.
 -- Assumes nothing.
 use Prim.Native.Nat.{ℕ}
+use Prim.Native.String.{String}
 use mathlib.Core.Path.{_≡_, refl, sym, _∙_, ap}
 use mathlib.Core.Logic.{_↔_}
 use mathlib.Core.List.{List, [], _∷_, _++_}
-use mathlib.Core.Bool.{Bool, true, false, not}
+use mathlib.Core.Bool.{Bool, true, false, not, _||_, or-false}
 use native.Mathlib.Omega.{arith}
 use borrow.Author.Tests.{not-true, not-false}
 use Rattle.choice.specs.Choice.{if_then_else_}
-use Rattle.fields.specs.Bytes.{every, isDigit}
+use Rattle.fields.specs.Bytes.{every, same, text, isDigit}
 use Rattle.fields.specs.Numbers.{numberOf, value}
 use Rattle.fields.specs.Numbers.{Digits}
 use Rattle.fields.specs.Numbers.{Number, NotDigits}
 use Rattle.fields.proofs.Values.{number-is, number-not}
 use Rattle.figures.specs.declared.totals.Totals.{Totals}
 use Rattle.layout.specs.Findings.{orElse, demanded}
+use Rattle.layout.specs.Rules.{oneOf}
 use Rattle.layout.specs.Rows.{Row, passes, firstFault, AllHold, rowNumber, rowField}
 use Rattle.layout.specs.declared.Finding.{Finding}
 use Rattle.layout.specs.declared.Finding.the-variants.{Sound, Fault}
 
 pub fault-not-sound : (n k : ℕ) → Fault n k ≡ Sound → ⊥
 fault-not-sound n k e = let z : _≡_ {A = ℕ} 0 1 = cc in omega arith
+
+-- a record that ends at a fault is not sound, and brings nothing
+pub no-value : {x : Finding} {n k : ℕ} → x ≡ Fault n k → x ≡ Sound → ⊥
+no-value {n = n} {k = k} e s = fault-not-sound n k (sym e ∙ s)
 
 pub or-else-assoc : (a b c : Finding) → orElse (orElse a b) c ≡ orElse a (orElse b c)
 or-else-assoc Sound b c = refl
@@ -29,15 +35,6 @@ or-else-assoc (Fault n k) b c = refl
 pub or-else-sound : (a : Finding) → orElse a Sound ≡ a
 or-else-sound Sound = refl
 or-else-sound (Fault n k) = refl
-
--- where two findings together are sound, each is
-pub or-else-both : (a b : Finding) → orElse a b ≡ Sound → (a ≡ Sound) × (b ≡ Sound)
-or-else-both Sound b h = (refl, h)
-or-else-both (Fault n k) b h = absurd (fault-not-sound n k h)
-
-pub demanded-both : (a : Finding) (ok : Bool) (n k : ℕ) → demanded a ok n k ≡ Sound → (a ≡ Sound) × (ok ≡ true)
-demanded-both a true n k h = (or-else-both a Sound h .0, refl)
-demanded-both a false n k h = absurd (fault-not-sound n k (or-else-both a (Fault n k) h .1))
 
 module _ (f : Totals) (ks : List ℕ) (r : List ℕ) where
   -- a row that holds leaves the rest of the table; one that does not ends it
@@ -116,15 +113,9 @@ module _ (f : Totals) (ks : List ℕ) (r : List ℕ) where
   pub goes-on : (ws vs : List Row) {x y : Finding} → x ≡ firstFault f ks r ws → x ≡ Sound → y ≡ firstFault f ks r vs → y ≡ firstFault f ks r (ws ++ vs)
   goes-on ws vs e h g = g ∙ sym (then-piece ws vs (sym e ∙ h))
 
-  -- a piece, and behind it a row that does not hold
-  pub cut : (ws : List Row) (w : Row) (vs : List Row) → passes f ks r w ≡ false
-      → firstFault f ks r (ws ++ (w ∷ vs)) ≡ orElse (firstFault f ks r ws) (Fault (rowNumber w) (rowField w))
-  cut ws w vs h = pieces ws (w ∷ vs) ∙ ap (orElse (firstFault f ks r ws)) (stop w vs h)
-
-  -- a piece, and behind it a row that holds
-  pub skip : (ws : List Row) (w : Row) (vs : List Row) → passes f ks r w ≡ true
-      → firstFault f ks r (ws ++ (w ∷ vs)) ≡ orElse (firstFault f ks r ws) (firstFault f ks r vs)
-  skip ws w vs h = pieces ws (w ∷ vs) ∙ ap (orElse (firstFault f ks r ws)) (next w vs h)
+  -- no fault where the rows of both pieces hold
+  pub both-hold : (ws vs : List Row) → AllHold f ks r ws → AllHold f ks r vs → Sound ≡ firstFault f ks r (ws ++ vs)
+  both-hold ws vs h g = goes-on ws vs (sym (sound-of-all ws h)) refl (sym (sound-of-all vs g))
 
   -- the whole table demanded row by row
   pub demands : (ws : List Row) → firstFault f ks r ws ≡ inTurn Sound ws
@@ -136,6 +127,11 @@ test-pass b x e h = sym e ∙ not-false b h
 
 pub test-fail : (b x : Bool) → b ≡ x → not b ≡ true → x ≡ false
 test-fail b x e h = sym e ∙ not-true b h
+
+-- one of two listed texts
+pub two-listed : (t u : String) (s : List ℕ) → oneOf (t ∷ u ∷ []) s ≡ same s (text t) || same s (text u)
+unfolding oneOf
+two-listed t u s = ap (λ (b : Bool). same s (text t) || b) (or-false (same s (text u)))
 
 -- a digit field that the code read
 module _ (s : List ℕ) (d : Digits) (e : d ≡ numberOf s) where

@@ -1,7 +1,8 @@
 // How a record's rules are written: rows, tables of rows and the first fault. The code has what a check finds.
 
 ghost use mathlib.Core.Path.{_≡_};
-ghost use Rattle.layout.specs.Findings.{orElse, demanded};
+ghost use Rattle.layout.specs.Findings.{orElse, demanded, accountFound};
+use field_accounts::Account;
 
 // No fault, or a refusal number and a field.
 pub enum Finding {
@@ -28,5 +29,17 @@ impl Finding {
             return self;
         }
         self.or_else(Finding::Fault(number, field))
+    }
+}
+
+// What an account in this field is found to be, by what reading it answered.
+pub fn account_found(account: Account, field: u8) -> Finding
+    ensures { λ r. ⌜ r ≡ accountFound account field ⌝ }
+{
+    match account {
+        Account::Right => Finding::Sound,
+        Account::WrongDigit(_digit) => Finding::Fault(11, field),
+        Account::NoRightDigit => Finding::Fault(11, field),
+        Account::NotDigits => Finding::Fault(8, field),
     }
 }

@@ -1,6 +1,6 @@
 -- Document 01, "Bytes and days", "Layouts" and "What may follow": every limit, stated here and named everywhere else.
 -- Assumes nothing.
-use Prim.Native.Nat.{ℕ}
+use Prim.Native.Nat.{ℕ, _+_, _*_}
 
 -- a record is 80 bytes and one line feed
 abbrev pub recordBytes : ℕ
@@ -12,6 +12,10 @@ mostRecords = 200_000
 
 abbrev pub mostAssignments : ℕ
 mostAssignments = 500
+
+-- room for the five figures of each assignment, and of what stands before the first
+abbrev pub figureSlots : ℕ
+figureSlots = 5 * (mostAssignments + 1)
 
 -- sums in øre: the amount of one transaction of type 04; an assignment of service 04; an assignment of service 01, a file, and each sum of sub-specifications
 abbrev pub mostOfType04 : ℕ

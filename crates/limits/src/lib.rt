@@ -7,6 +7,9 @@ pub const MOST_RECORDS: usize = 200_000;
 
 pub const MOST_ASSIGNMENTS: usize = 500;
 
+// Room for the five figures of each assignment, and of what stands before the first.
+pub const FIGURE_SLOTS: usize = 2505;
+
 // Sums in øre: the amount of one transaction of type 04; an assignment of service 04; an assignment of service 01, a file, and each sum of sub-specifications.
 pub const MOST_OF_TYPE_04: u64 = 9_999_999_999;
 

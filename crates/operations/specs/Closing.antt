@@ -57,22 +57,22 @@ weigh w d =
 unfoldable pub closeOf : ProcessDay → List ℕ → ℕ → Verdict
 closeOf day d room = onWindow (windowOf day) (λ w. onAccepted (weigh w d) (given room))
 
--- behind an 88 for the assignment at hand
+-- after an 88 for the assignment at hand
 abbrev pub behind88 : State → State
 behind88 st = afterFor R88 st []
 
--- a record 20 behind another assignment: that one ends before it
+-- a record 20 after another assignment: that one ends before it
 abbrev pub endsBefore : State → List ℕ → Bool
 endsBefore st r = opens r && ltb 0 (st .file .assignments .0)
 
--- the records behind a state, with the end records between and behind them
+-- the records after a state, with the end records between and after them
 unfoldable pub withEnds : State → List (List ℕ) → List (List ℕ)
 withEnds st [] = end88 (behind88 st .assignment) ∷ end89 (behind88 st .file ⊕ oneRecord) ∷ []
 withEnds st (r ∷ rs) =
     if endsBefore st r then end88 (behind88 st .assignment) ∷ r ∷ withEnds (after (behind88 st) r) rs
     else r ∷ withEnds (after st r) rs
 
--- records one behind the other
+-- records one after the other
 unfoldable pub bytesOf : List (List ℕ) → List ℕ
 bytesOf [] = []
 bytesOf (r ∷ rs) = r ++ bytesOf rs
@@ -81,7 +81,7 @@ bytesOf (r ∷ rs) = r ++ bytesOf rs
 unfoldable pub closedFile : List ℕ → List ℕ
 closedFile d = bytesOf (withEnds start (recordsOf d))
 
--- an output behind the operation: what is written lies over its start where the answer is accepted; else all stays
+-- an output after the operation: what is written lies over its start where the answer is accepted; else all stays
 unfoldable pub lentAfter : Verdict → List ℕ → List ℕ → List ℕ
 lentAfter (Accepted t) written before = written ++ drop (length written) before
 lentAfter (Refused x) written before = before

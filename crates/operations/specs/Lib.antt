@@ -2,4 +2,5 @@ pub mod Ends
 pub mod Closing
 pub mod Joining
 pub mod Parting
+pub mod Answers
 pub mod Promises

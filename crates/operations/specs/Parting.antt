@@ -1,6 +1,7 @@
 -- Document 01, "Closing, joining, parting": what parting a file answers, and what it writes.
 -- Assumes nothing.
 use Prim.Native.Nat.{ℕ, _+_, _-_}
+use mathlib.Core.Path.{_≡_}
 use mathlib.Core.List.{List, [], _∷_, _++_}
 use mathlib.Core.Bool.{Bool, _&&_}
 use lib.Dec.{eqb, leb, ltb}
@@ -14,13 +15,14 @@ use Rattle.rules.specs.Codes.{recordCode}
 use Rattle.rules.specs.Growth.{gains}
 use Rattle.rules.specs.Refusals.{refusal}
 use Rattle.rules.specs.Run.{recordsOf, checkOf}
+use Rattle.rules.specs.declared.Refusal.{Refusal}
 use Rattle.rules.specs.declared.Verdict.{Verdict}
 use Rattle.rules.specs.declared.Verdict.the-variants.{Accepted, Refused}
 use Rattle.operations.specs.Ends.{end89}
 use Rattle.operations.specs.Closing.{bytesOf}
 use Rattle.operations.specs.Joining.{assignmentsOf}
 use Rattle.operations.specs.declared.Parting.{Parting}
-use Rattle.operations.specs.declared.Parting.the-variants.{Parted, NotParted}
+use Rattle.operations.specs.declared.Parting.the-variants.{Parted, NoBoundary, NotParted}
 
 -- how many records the first k assignments have: up to and with the k-th 88
 unfoldable pub through : ℕ → List (List ℕ) → ℕ
@@ -53,17 +55,28 @@ ofCheck (Refused x) f = NotParted x
 abbrev pub notParted : ℕ → Parting
 notParted number = NotParted (refusal number 0 0 0)
 
--- what parting behind the k-th assignment answers, into outputs of these lengths: 21 unless 1 <= k < assignments, 19 if either is too short
+-- document 01's refusal in an answer, with its number and values: a parted file has none, and 21 has zeros whatever the file's assignments are
+abbrev pub noBoundary : Refusal
+noBoundary = refusal 21 0 0 0
+
+unfoldable pub Refuses : Parting → Refusal → Type 0
+Refuses (Parted n m) x = ⊥
+Refuses (NoBoundary assignments) x = noBoundary ≡ x
+Refuses (NotParted y) x = y ≡ x
+
+-- what parting after the k-th assignment answers, into outputs of these lengths: 21 unless 1 <= k < assignments, 19 if either is too short;
+-- with the lengths of both parts, or the number of assignments that the file has
 unfoldable pub partOf : ProcessDay → List ℕ → ℕ → ℕ → ℕ → Parting
 partOf day b k room1 room2 =
     ofCheck (checkOf day b) (λ t.
     if leb 1 k && ltb k (t .assignments .0) then
-    (if leb (length (firstPart k b)) room1 && leb (length (secondPart k b)) room2 then Parted else notParted 19)
-    else notParted 21)
+    (if leb (length (firstPart k b)) room1 && leb (length (secondPart k b)) room2 then Parted (length (firstPart k b)) (length (secondPart k b)) else notParted 19)
+    else NoBoundary (t .assignments))
 
--- an output behind parting: what is written lies over its start where the file was parted; else all stays
+-- an output after parting: what is written lies over its start where the file was parted; else all stays
 unfoldable pub lentParted : Parting → List ℕ → List ℕ → List ℕ
-lentParted Parted written before = written ++ drop (length written) before
+lentParted (Parted n m) written before = written ++ drop (length written) before
+lentParted (NoBoundary assignments) written before = before
 lentParted (NotParted x) written before = before
 
 unfoldable pub partedFirst : ProcessDay → List ℕ → ℕ → List ℕ → List ℕ → List ℕ

@@ -7,6 +7,7 @@ use lib.ListN.{length}
 use Rattle.dates.specs.declared.ProcessDay.{ProcessDay}
 use Rattle.rules.specs.Run.{checkOf}
 use Rattle.rules.specs.declared.Verdict.{Verdict}
+use Rattle.operations.specs.Answers.{numbers, partedNumbers}
 use Rattle.operations.specs.Closing.{closeOf, closedBytes}
 use Rattle.operations.specs.Joining.{joinOf, joinedBytes}
 use Rattle.operations.specs.Parting.{partOf, partedFirst, partedSecond}
@@ -28,5 +29,22 @@ pub record JoinPromise (day : ProcessDay) (first second out : List ℕ) (answer 
 -- the answer, and both outputs afterwards
 pub record PartPromise (day : ProcessDay) (file : List ℕ) (k : ℕ) (out1 out2 : List ℕ) (answer : Parting) (after1 after2 : List ℕ) : Type 0 where
   pub answers : answer ≡ partOf day file k (length out1) (length out2)
+  pub leaves-first : after1 ≡ partedFirst day file k out1 out2
+  pub leaves-second : after2 ≡ partedSecond day file k out1 out2
+
+-- ---- for a program in C or Rust: the answer as numbers, and the same bytes
+pub record CheckNumbers (day : ProcessDay) (file answer : List ℕ) : Type 0 where
+  pub answers : answer ≡ numbers (checkOf day file)
+
+pub record CloseNumbers (day : ProcessDay) (draft out answer after : List ℕ) : Type 0 where
+  pub answers : answer ≡ numbers (closeOf day draft (length out))
+  pub leaves : after ≡ closedBytes day draft out
+
+pub record JoinNumbers (day : ProcessDay) (first second out answer after : List ℕ) : Type 0 where
+  pub answers : answer ≡ numbers (joinOf day first second (length out))
+  pub leaves : after ≡ joinedBytes day first second out
+
+pub record PartNumbers (day : ProcessDay) (file : List ℕ) (k : ℕ) (out1 out2 answer after1 after2 : List ℕ) : Type 0 where
+  pub answers : answer ≡ partedNumbers (partOf day file k (length out1) (length out2))
   pub leaves-first : after1 ≡ partedFirst day file k out1 out2
   pub leaves-second : after2 ≡ partedSecond day file k out1 out2

@@ -15,19 +15,20 @@ use Rattle.figures.specs.Totals.{none, _⊕_, oneRecord, Room}
 use Rattle.figures.specs.declared.totals.Totals.{Totals}
 use Rattle.figures.proofs.Laws.{⊕-assoc, none-⊕}
 use Rattle.run_growth.specs.Bounds.{Bounded}
-use Rattle.laws.proofs.Bytes.{record-count}
+use Rattle.laws.proofs.Bytes.{record-count, laid}
 use Rattle.laws.proofs.EndsPut.{gains-records}
 use Rattle.laws.proofs.Made.{bytes-join}
 use Rattle.operations.specs.Ends.{end89}
 use Rattle.operations.specs.Closing.{bytesOf}
 use Rattle.operations.specs.Parting.{through, figuresOf, made, notParted, lentParted}
 use Rattle.operations.specs.declared.Parting.{Parting}
-use Rattle.operations.specs.declared.Parting.the-variants.{Parted}
+use Rattle.operations.specs.declared.Parting.the-variants.{Parted, NotParted}
 use Rattle.rules.specs.Growth.{gains}
+use Rattle.rules.specs.Refusals.{refusal}
 use Rattle.rules.specs.Run.{chunks, recordsOf}
-use Rattle.run_sums.specs.Sums.{summed}
+use Rattle.rules.specs.declared.Refusal.{Refusal}
+use Rattle.run_figures.specs.Slots.{summed}
 use Rattle.write_file.proofs.Wrote.{tail-part, end-length}
-use Rattle.close_blocks.proofs.Walk.{laid}
 use Rattle.part_divide.specs.Halves.{Divisible, firstHalf, secondHalf, divided}
 
 -- ---- figures with both ends
@@ -70,16 +71,16 @@ unfolding bytesOf made
 made-bytes head body = ap (λ (x : List ℕ). head ++ x) (bytes-join body (end89 (figuresOf body) ∷ []) ∙ ap (λ (x : List ℕ). bytesOf body ++ x) (append-nil (end89 (figuresOf body))))
 
 -- the boundary, from the figures of what stands before it
-module _ (head body kept : List ℕ) (k all : ℕ) (d : Divisible head body kept k all) (t : Totals) (e : t ≡ summed kept 1 (k + 1 - 1)) where
+module _ (head body figures : List ℕ) (k all : ℕ) (d : Divisible head body figures k all) (t : Totals) (e : t ≡ summed figures 1 (k + 1 - 1)) where
   boundary : t .records .0 ≡ through k (recordsOf body)
   boundary =
       let n = through k (recordsOf body) in
-      ap (λ (x : Totals). x .records .0) (e ∙ d .shares .first) ∙ gains-records (take n (recordsOf body)) ∙ length-take-le n (recordsOf body) (d .shares .within)
+      ap (λ (x : Totals). x .records .0) (e ∙ d .sums .first) ∙ gains-records (take n (recordsOf body)) ∙ length-take-le n (recordsOf body) (d .sums .within)
 
   pub cut-here : (t .records .0 ≡ through k (recordsOf body)) × (t .records .0 ≤ length body / 81) × (t ≡ gains (take (t .records .0) (recordsOf body)))
-  cut-here = (boundary, omega (arith, boundary, d .shares .within, record-count body), e ∙ d .shares .first ∙ ap (λ (n : ℕ). gains (take n (recordsOf body))) (sym boundary))
+  cut-here = (boundary, omega (arith, boundary, d .sums .within, record-count body), e ∙ d .sums .first ∙ ap (λ (n : ℕ). gains (take n (recordsOf body))) (sym boundary))
 
-module _ (head body kept : List ℕ) (k all : ℕ) (d : Divisible head body kept k all) (p : ℕ) (e : p ≡ through k (recordsOf body)) (m : p ≤ length body / 81) where
+module _ (head body figures : List ℕ) (k all : ℕ) (d : Divisible head body figures k all) (p : ℕ) (e : p ≡ through k (recordsOf body)) (m : p ≤ length body / 81) where
   -- the assignments before the boundary, and those behind it
   front : bytesOf (take p (recordsOf body)) ≡ take (81 * p) body
   front = ap bytesOf (first-cuts p (length body / 81) body m) ∙ laid p body (omega (arith, d .whole))
@@ -131,22 +132,25 @@ module _ (head body kept : List ℕ) (k all : ℕ) (d : Divisible head body kept
     Divides x one two =
         (x ≡ divided head body k (length first) (length second)) × (one ≡ lentParted x (firstHalf head body k) first) × (two ≡ lentParted x (secondHalf head body k) second)
 
-    leaves : (x : Parting) → x ≡ notParted 19 → divided head body k (length first) (length second) ≡ notParted 19 → Divides x first second
+    -- the answer, from which of the two outputs have room
+    answered : Bool → Bool → Parting
+    answered y z = if (y && z) then Parted (length (firstHalf head body k)) (length (secondHalf head body k)) else notParted 19
+
+    leaves : (x : Refusal) → x ≡ refusal 19 0 0 0 → divided head body k (length first) (length second) ≡ notParted 19 → Divides (NotParted x) first second
     unfolding lentParted
-    leaves x e q =
-        (e ∙ sym q, ap (λ (y : Parting). lentParted y (firstHalf head body k) first) (sym e), ap (λ (y : Parting). lentParted y (secondHalf head body k) second) (sym e))
+    leaves x e q = (ap NotParted e ∙ sym q, refl, refl)
 
-    pub first-short : (x : Parting) → x ≡ notParted 19 → length first < 81 * p + 162 → Divides x first second
-    unfolding divided
+    pub first-short : (x : Refusal) → x ≡ refusal 19 0 0 0 → length first < 81 * p + 162 → Divides (NotParted x) first second
+    unfolding divided answered
     first-short x q h =
-        leaves x q
-        (ap (λ (b : Bool). if (b && leb (length (secondHalf head body k)) (length second)) then Parted else notParted 19) (lt-leb (length (firstHalf head body k)) (length first) (omega (arith, first-long))))
+        leaves x q (ap (λ (y : Bool). answered y (leb (length (secondHalf head body k)) (length second))) (lt-leb (length (firstHalf head body k)) (length first) (omega (arith, first-long))))
 
-    pub second-short : (x : Parting) → x ≡ notParted 19 → length second < length body - 81 * p + 162 → Divides x first second
-    unfolding divided
+    pub second-short : (x : Refusal) → x ≡ refusal 19 0 0 0 → length second < length body - 81 * p + 162 → Divides (NotParted x) first second
+    unfolding divided answered
     second-short x q h =
         leaves x q
-        (ap (λ (b : Bool). if b then Parted else notParted 19) (ap (λ (b : Bool). leb (length (firstHalf head body k)) (length first) && b) (lt-leb (length (secondHalf head body k)) (length second) (omega (arith, second-long))) ∙ and-false (leb (length (firstHalf head body k)) (length first))))
+        (ap (answered (leb (length (firstHalf head body k)) (length first))) (lt-leb (length (secondHalf head body k)) (length second) (omega (arith, second-long)))
+        ∙ ap (λ (y : Bool). if y then Parted (length (firstHalf head body k)) (length (secondHalf head body k)) else notParted 19) (and-false (leb (length (firstHalf head body k)) (length first))))
 
     module _ (h : 81 * p + 162 ≤ length first) (g : length body - 81 * p + 162 ≤ length second) where
       pub first-room : length head + length (take (81 * p) body) + 81 ≤ length first
@@ -155,23 +159,24 @@ module _ (head body kept : List ℕ) (k all : ℕ) (d : Divisible head body kept
       pub second-room : length head + length restOf + 81 ≤ length second
       second-room = omega (arith, d .ten, rest-long)
 
-      both : divided head body k (length first) (length second) ≡ Parted
-      unfolding divided
+      both : divided head body k (length first) (length second) ≡ Parted (81 * p + 162) (length body - 81 * p + 162)
+      unfolding divided answered
       both =
-          ap₂ (λ (x y : Bool). if (x && y) then Parted else notParted 19) (le-leb (length (firstHalf head body k)) (length first) (omega (arith, first-long))) (le-leb (length (secondHalf head body k)) (length second) (omega (arith, second-long)))
+          ap₂ answered (le-leb (length (firstHalf head body k)) (length first) (omega (arith, first-long))) (le-leb (length (secondHalf head body k)) (length second) (omega (arith, second-long)))
+          ∙ ap₂ Parted first-long second-long
 
-      over : (w v before after : List ℕ) (n : ℕ) → w ≡ v → length v ≡ n → after ≡ w ++ drop n before → after ≡ lentParted Parted v before
+      over : (w v before after : List ℕ) (n : ℕ) → w ≡ v → length v ≡ n → after ≡ w ++ drop n before → after ≡ lentParted (Parted (81 * p + 162) (length body - 81 * p + 162)) v before
       unfolding lentParted
       over w v before after n i l q = q ∙ ap₂ (λ (x : List ℕ) (y : ℕ). x ++ drop y before) i (sym l)
 
       pub parts : (t u f o : Totals) (one two : List ℕ) → t ≡ gains (take p (recordsOf body)) → f ≡ (oneRecord ⊕ t) ⊕ oneRecord
-          → u ≡ summed kept (k + 1) (all + 1 - (k + 1)) → o ≡ oneRecord ⊕ u
+          → u ≡ summed figures (k + 1) (all + 1 - (k + 1)) → o ≡ oneRecord ⊕ u
           → one ≡ (head ++ (take (81 * p) body ++ end89 f)) ++ drop (length head + length (take (81 * p) body) + 81) first
-          → two ≡ (head ++ (restOf ++ end89 o)) ++ drop (length head + length restOf + 81) second → Divides Parted one two
+          → two ≡ (head ++ (restOf ++ end89 o)) ++ drop (length head + length restOf + 81) second → Divides (Parted (81 * p + 162) (length body - 81 * p + 162)) one two
       parts t u f o one two a b c j x y =
           let g = gains (drop p (recordsOf body)) in
           let q : o ≡ (oneRecord ⊕ g) ⊕ oneRecord =
-          j ∙ ap (λ (z : Totals). oneRecord ⊕ z) (c ∙ d .shares .others ∙ ap (λ (n : ℕ). gains (drop n (recordsOf body)) ⊕ oneRecord) (sym e)) ∙ sym (⊕-assoc oneRecord g oneRecord) in (
+          j ∙ ap (λ (z : Totals). oneRecord ⊕ z) (c ∙ d .sums .others ∙ ap (λ (n : ℕ). gains (drop n (recordsOf body)) ⊕ oneRecord) (sym e)) ∙ sym (⊕-assoc oneRecord g oneRecord) in (
             sym both,
             over _ (firstHalf head body k) first one (length head + length (take (81 * p) body) + 81) (first-is t f a b) (omega (arith, first-long, d .ten, front-long)) x,
             over _ (secondHalf head body k) second two (length head + length restOf + 81) (second-is g o refl q) (omega (arith, second-long, d .ten, rest-long)) y,

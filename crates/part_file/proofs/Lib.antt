@@ -1,2 +1,2 @@
-pub mod Shared
+pub mod HalfSums
 pub mod Answers

@@ -1,14 +1,20 @@
 // The office's tool over whole files: pay check, close, join and part.
 
+use figures::counts::Count;
 use figures::totals::Totals;
+use limits::MOST_RECORDS;
+use limits::RECORD_BYTES;
+use operations::Parting;
 use rules::Mode;
-use rules::Refusal;
 use rules::Verdict;
-use tool_command::asked;
-use tool_command::asked::Command;
+use tool_command as asked;
+use tool_command::Command;
 use tool_explain::answers;
 use tool_outputs::Output;
-use tool_outputs::Parts;
+use tool_phrases::help;
+
+// A file of full size and a record more, which the rules refuse.
+const ROOM: usize = RECORD_BYTES * (MOST_RECORDS + 1);
 
 fn check(file: &[u8]) {
     match check_file::check(asked::day(), file) {
@@ -68,40 +74,29 @@ fn keep_parts(first: &[u8], second: &[u8]) {
     }
 }
 
-// How many assignments an accepted file has, for whoever named a boundary that it does not have.
-fn tell_boundaries(file: &[u8]) {
-    match check_file::check(asked::day(), file) {
-        Verdict::Refused(_x) => tool_phrases::say(b""),
-        Verdict::Accepted(t) => {
-            let assignments = t.assignments;
-            tool_explain::say_boundaries(assignments.0);
-        }
-    }
-}
-
-fn tell_not_parted(x: Refusal, file: &[u8]) {
-    answers::tell_refused(x, Mode::File, file);
-    if x.number == 21 {
-        tell_boundaries(file);
-    }
+// A boundary that the file does not have: the refusal, and how many assignments there are.
+fn tell_boundaries(assignments: Count, file: &[u8]) {
+    answers::tell_refused(operations::no_boundary(), Mode::File, file);
+    tool_explain::say_boundaries(assignments.0);
 }
 
 fn part(file: &[u8], first: &mut [u8], second: &mut [u8]) {
     match tool_outputs::part(asked::day(), file, asked::boundary(), first, second) {
-        Parts::Refused(x) => tell_not_parted(x, file),
-        Parts::Files(a, b) => keep_parts(&first[..a], &second[..b]),
+        Parting::NotParted(x) => answers::tell_refused(x, Mode::File, file),
+        Parting::NoBoundary(assignments) => tell_boundaries(assignments, file),
+        Parting::Parted(a, b) => keep_parts(&first[..a], &second[..b]),
     }
 }
 
 // The command on its first file, with room for two more.
 fn serve(file: &[u8], second: &mut [u8], third: &mut [u8]) {
-    match asked::order_given() {
+    match asked::command_given() {
         Command::Check => check(file),
         Command::Close => close(file, second),
         Command::Join => with_second(file, second, third),
         Command::Part => part(file, second, third),
-        Command::Help => tool_help::help(),
-        Command::Unknown => tool_help::usage(Command::Unknown),
+        Command::Help => help::say_help(),
+        Command::Unknown => help::say_usage(Command::Unknown),
     }
 }
 
@@ -122,11 +117,11 @@ fn run(first: &mut [u8], second: &mut [u8], third: &mut [u8]) {
     read_first(&name[..n], first, second, third);
 }
 
-fn with_room(first: &mut [u8; 16200081], second: &mut [u8; 16200081], third: &mut [u8; 16200081]) {
+fn with_room(first: &mut [u8; ROOM], second: &mut [u8; ROOM], third: &mut [u8; ROOM]) {
     run(first, second, third);
 }
 
-// Room for three files of full size and a record more, which the rules refuse, in a frame of its own: a function that calls itself is not merged into its caller, so
+// Room for three files in a frame of its own: a function that calls itself is not merged into its caller, so
 // that help and wrong usage need no large stack. It never does call itself: no command line has a million words.
 fn hold(again: u64) {
     if 0 < again {
@@ -134,20 +129,20 @@ fn hold(again: u64) {
         program_lines::end_line();
         return;
     }
-    let mut first = [0u8; 16200081];
-    let mut second = [0u8; 16200081];
-    let mut third = [0u8; 16200081];
+    let mut first = [0u8; ROOM];
+    let mut second = [0u8; ROOM];
+    let mut third = [0u8; ROOM];
     with_room(&mut first, &mut second, &mut third);
 }
 
 fn main() {
-    let command = asked::order_given();
+    let command = asked::command_given();
     if let Command::Help = command {
-        tool_help::help();
+        help::say_help();
         return;
     }
     if os::arg_count() != asked::words_of(command) {
-        tool_help::usage(command);
+        help::say_usage(command);
         return;
     }
     // asked for a second time, so that the compiler cannot see that this is 0

@@ -1,12 +1,8 @@
 // The operations for programs in C or Rust: a slice is a pointer and a length, and the answer goes into ten lent numbers.
 
 ghost use mathlib.Core.Path.{_≡_};
-ghost use lib.ListN.{length};
-ghost use Rattle.operations.specs.Closing.{closeOf, closedBytes};
-ghost use Rattle.operations.specs.Joining.{joinOf, joinedBytes};
-ghost use Rattle.operations.specs.Parting.{partOf, partedFirst, partedSecond};
-ghost use Rattle.rules.specs.Run.{checkOf};
-ghost use Rattle.pay_c.specs.Answers.{dayFrom, numbers, partedNumbers};
+ghost use Rattle.operations.specs.Answers.{dayFrom, numbers, partedNumbers};
+ghost use Rattle.operations.specs.Promises.{CheckNumbers, CloseNumbers, JoinNumbers, PartNumbers};
 use dates::ProcessDay;
 use operations::Parting;
 use rules::Verdict;
@@ -57,8 +53,11 @@ fn tell_parting(parting: Parting, answer: &mut [u64; 10])
     ensures { λ _. ⌜ now (answer .exit) ≡ partedNumbers parting ⌝ }
 {
     match parting {
-        Parting::Parted => {
+        Parting::Parted(_first, _second) => {
             *answer = [2, 0, 0, 0, 0, 0, 0, 0, 0, 0];
+        }
+        Parting::NoBoundary(_assignments) => {
+            tell(Verdict::Refused(operations::no_boundary()), answer)
         }
         Parting::NotParted(x) => tell(Verdict::Refused(x), answer),
     }
@@ -66,7 +65,7 @@ fn tell_parting(parting: Parting, answer: &mut [u64; 10])
 
 #[no_mangle]
 pub extern "C" fn pay_check(year: u64, month: u64, day: u64, file: &[u8], answer: &mut [u64; 10])
-    ensures { λ _. ⌜ now (answer .exit) ≡ numbers (checkOf (dayFrom year month day) (now (file .entry))) ⌝ }
+    ensures { λ _. ⌜ CheckNumbers (dayFrom year month day) (now (file .entry)) (now (answer .exit)) ⌝ }
 {
     tell(
         check_file::check(ProcessDay { year, month, day }, file),
@@ -83,7 +82,7 @@ pub extern "C" fn pay_close(
     out: &mut [u8],
     answer: &mut [u64; 10],
 )
-    ensures { λ _. ⌜ (now (answer .exit) ≡ numbers (closeOf (dayFrom year month day) (now (draft .entry)) (length (now (out .entry))))) × (now (out .exit) ≡ closedBytes (dayFrom year month day) (now (draft .entry)) (now (out .entry))) ⌝ }
+    ensures { λ _. ⌜ CloseNumbers (dayFrom year month day) (now (draft .entry)) (now (out .entry)) (now (answer .exit)) (now (out .exit)) ⌝ }
 {
     tell(
         close_draft::close(ProcessDay { year, month, day }, draft, out),
@@ -101,7 +100,7 @@ pub extern "C" fn pay_join(
     out: &mut [u8],
     answer: &mut [u64; 10],
 )
-    ensures { λ _. ⌜ (now (answer .exit) ≡ numbers (joinOf (dayFrom year month day) (now (first .entry)) (now (second .entry)) (length (now (out .entry))))) × (now (out .exit) ≡ joinedBytes (dayFrom year month day) (now (first .entry)) (now (second .entry)) (now (out .entry))) ⌝ }
+    ensures { λ _. ⌜ JoinNumbers (dayFrom year month day) (now (first .entry)) (now (second .entry)) (now (out .entry)) (now (answer .exit)) (now (out .exit)) ⌝ }
 {
     tell(
         join_files::join(ProcessDay { year, month, day }, first, second, out),
@@ -120,7 +119,7 @@ pub extern "C" fn pay_part(
     second: &mut [u8],
     answer: &mut [u64; 10],
 )
-    ensures { λ _. ⌜ (now (answer .exit) ≡ partedNumbers (partOf (dayFrom year month day) (now (file .entry)) k (length (now (first .entry))) (length (now (second .entry))))) × (now (first .exit) ≡ partedFirst (dayFrom year month day) (now (file .entry)) k (now (first .entry)) (now (second .entry))) × (now (second .exit) ≡ partedSecond (dayFrom year month day) (now (file .entry)) k (now (first .entry)) (now (second .entry))) ⌝ }
+    ensures { λ _. ⌜ PartNumbers (dayFrom year month day) (now (file .entry)) k (now (first .entry)) (now (second .entry)) (now (answer .exit)) (now (first .exit)) (now (second .exit)) ⌝ }
 {
     tell_parting(
         part_file::part(ProcessDay { year, month, day }, file, k, first, second),

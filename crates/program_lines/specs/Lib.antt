@@ -1,2 +1,2 @@
 pub mod Days
-pub mod Words
+pub mod Answers

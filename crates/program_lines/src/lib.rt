@@ -2,11 +2,12 @@
 
 ghost use mathlib.Core.Path.{_≡_};
 ghost use Rattle.program_lines.specs.Days.{dayWritten};
-ghost use Rattle.program_lines.specs.Words.{wordFor};
+ghost use Rattle.program_lines.specs.Answers.{wordFor};
 use dates::Date;
 use dates::ProcessDay;
 use figures::totals::Totals;
 use libc::STDOUT_FILENO;
+use operations::Parting;
 use rules::Refusal;
 use rules::Verdict;
 
@@ -21,7 +22,7 @@ pub fn process_day(ddmmyy: u64) -> ProcessDay
     }
 }
 
-// A number behind a blank.
+// A number after a blank.
 pub fn print_number(n: u64) {
     io::write_all(STDOUT_FILENO, b" ");
     io::print_decimal(STDOUT_FILENO, n);
@@ -64,7 +65,7 @@ fn print_figures(t: Totals) {
 }
 
 // A refusal's number, record and field.
-fn print_place(x: Refusal) {
+fn print_refusal(x: Refusal) {
     io::print_decimal(STDOUT_FILENO, x.number as u64);
     print_number(x.record);
     print_number(x.field as u64);
@@ -76,7 +77,7 @@ pub fn print_answer(verdict: Verdict) {
     io::write_all(STDOUT_FILENO, &word);
     match verdict {
         Verdict::Accepted(t) => print_figures(t),
-        Verdict::Refused(x) => print_place(x),
+        Verdict::Refused(x) => print_refusal(x),
     }
 }
 
@@ -84,4 +85,25 @@ pub fn print_answer(verdict: Verdict) {
 pub fn print_check(verdict: Verdict) {
     print_answer(verdict);
     end_line();
+}
+
+// The operand of a joining's refusal, after the answer.
+pub fn print_operand(verdict: Verdict) {
+    match verdict {
+        Verdict::Accepted(_t) => {}
+        Verdict::Refused(x) => print_number(x.operand as u64),
+    }
+}
+
+// The answer of a parting, without the line's end.
+pub fn print_parting(parting: Parting) {
+    match parting {
+        Parting::Parted(_first, _second) => {
+            io::write_all(STDOUT_FILENO, b"parted");
+        }
+        Parting::NoBoundary(_assignments) => {
+            print_answer(Verdict::Refused(operations::no_boundary()))
+        }
+        Parting::NotParted(x) => print_answer(Verdict::Refused(x)),
+    }
 }

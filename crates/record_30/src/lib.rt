@@ -1,15 +1,15 @@
 // Record 30, the payment: each stage answers what its fields are found to be, and the whole the first fault.
 
 ghost use mathlib.Core.Path.{_≡_};
-ghost use mathlib.Core.List.{List, [], _∷_, _++_};
+ghost use mathlib.Core.List.{List};
 ghost use Prim.Native.Nat.{ℕ};
 ghost use lib.ListN.{length};
-ghost use Rattle.layout.specs.Rows.{at, firstFault};
+ghost use Rattle.limits.specs.Limits.{recordBytes};
+ghost use Rattle.layout.specs.Rows.{firstFault};
 ghost use Rattle.services.specs.Services.{codeFor};
 ghost use Rattle.rules.specs.Codes.{serviceCode};
-ghost use Rattle.rules.specs.Payments.{typeListed};
-ghost use Rattle.rules.specs.Layouts.{groupGives, belongs};
-ghost use Rattle.record_30.specs.Paid.{tail30, RestBy, PaidBy};
+ghost use Rattle.rules.specs.Layouts.{head30, tail30};
+ghost use Rattle.record_30.specs.Paid.{RestBy, PaidBy};
 use dates::Date;
 use dates::Window;
 use field_bytes::classes::Class;
@@ -29,8 +29,8 @@ pub struct Paid {
 
 // The group before is whole; fields 1 to 3. Where all of it holds, no fault is looked for.
 fn head(r: &[u8], a: Assignment) -> Finding
-    requires { ⌜ length (now r) ≡ 81 ⌝ }
-    ensures { λ x. ⌜ ((f : Totals) (ks : List ℕ) → x ≡ firstFault f ks (now (r .entry)) ((groupGives a ∷ belongs a (now (r .entry))) ++ (at 3 5 6 (typeListed (serviceCode (now (r .entry)))) ∷ []))) ⌝ }
+    requires { ⌜ length (now r) ≡ recordBytes ⌝ }
+    ensures { λ x. ⌜ ((f : Totals) (ks : List ℕ) → x ≡ firstFault f ks (now (r .entry)) (head30 a (now (r .entry)))) ⌝ }
 {
     let group = a.group;
     let service = a.service;
@@ -38,19 +38,23 @@ fn head(r: &[u8], a: Assignment) -> Finding
     let code = fields::code_at(r, 5);
     if gives
         & record_shared::belongs_to(r, service)
-        & record_30_fields::listed(record_shared::code_for(service), code)
+        & record_30_fields::listed(services::code_for(service), code)
     {
         return Finding::Sound;
     }
-    Finding::Sound
-        .demand(gives, 14, 0)
-        .or_else(record_shared::belonging(r, service))
-        .demand(record_30_fields::listed(fields::code_at(r, 3), code), 7, 3)
+    if !gives {
+        return Finding::Fault(14, 0);
+    }
+    record_shared::belonging(r, service).demand(
+        record_30_fields::listed(fields::code_at(r, 3), code),
+        7,
+        3,
+    )
 }
 
 // Fields 9 and 10. Where both hold, no fault is looked for.
 fn tail(r: &[u8], service: u8) -> Finding
-    requires { ⌜ (length (now r) ≡ 81) × (service ≡ serviceCode (now r)) ⌝ }
+    requires { ⌜ (length (now r) ≡ recordBytes) × (service ≡ serviceCode (now r)) ⌝ }
     ensures { λ x. ⌜ ((f : Totals) (ks : List ℕ) → x ≡ firstFault f ks (now (r .entry)) (tail30 (now (r .entry)))) ⌝ }
 {
     let kid = record_30_fields::kid_sound(r, service);
@@ -81,7 +85,7 @@ fn behind_number(
     file: Totals,
     number: TransactionNumber,
 ) -> Paid
-    requires { ⌜ (length (now r) ≡ 81) × (serviceCode (now r) ≡ codeFor (a .service)) ⌝ }
+    requires { ⌜ (length (now r) ≡ recordBytes) × (serviceCode (now r) ≡ codeFor (a .service)) ⌝ }
     ensures { λ x. ⌜ ((ks : List ℕ) → RestBy w a file ks (now (r .entry)) number x) ⌝ }
 {
     // Read first and looked at third: reading the amount takes longest, and can go on while the other fields are looked at.
@@ -92,7 +96,7 @@ fn behind_number(
         return wrong(fault, field);
     }
     let assigned = a.service;
-    let service = record_shared::code_for(assigned);
+    let service = services::code_for(assigned);
     let party_found = record_30_fields::party(r, service);
     if let Finding::Fault(fault, field) = party_found {
         return wrong(fault, field);
@@ -113,7 +117,7 @@ fn behind_number(
 
 // Record 30 whole: the first fault in the order of its fields, or what it brings.
 pub fn check30(r: &[u8], w: Window, a: Assignment, file: Totals) -> Paid
-    requires { ⌜ length (now r) ≡ 81 ⌝ }
+    requires { ⌜ length (now r) ≡ recordBytes ⌝ }
     ensures { λ x. ⌜ ((ks : List ℕ) → PaidBy w a file ks (now (r .entry)) x) ⌝ }
 {
     let head_found = head(r, a);

@@ -6,6 +6,7 @@ ghost use mathlib.Core.List.{List};
 ghost use Prim.Native.Nat.{ℕ};
 ghost use lib.Dec.{eqb};
 ghost use lib.ListN.{length};
+ghost use Rattle.limits.specs.Limits.{recordBytes};
 ghost use Rattle.fields.specs.Bytes.{part};
 ghost use Rattle.fields.specs.Accounts.{isNumber};
 ghost use Rattle.fields.specs.Kids.{atRight, isReference};
@@ -49,7 +50,7 @@ fn is_number(account: Account) -> bool
 
 // Field 7 is a reference, which service 01 takes.
 fn referred(r: &[u8], service: u8) -> bool
-    requires { ⌜ length (now r) ≡ 81 ⌝ }
+    requires { ⌜ length (now r) ≡ recordBytes ⌝ }
     ensures { λ x. ⌜ x ≡ (eqb service 1 && isReference (part 22 32 (now (r .entry)))) ⌝ }
 {
     if service == 1 {
@@ -58,25 +59,27 @@ fn referred(r: &[u8], service: u8) -> bool
     false
 }
 
-// Field 7, payee or payer, of a record of the service. A right account is sound whatever the type, and told at once.
+// Field 7, payee or payer, of a record of the service: a right account, told at once; a reference; eleven digits of any sort for type 04 of service 04.
 pub fn party(r: &[u8], service: u8) -> Finding
-    requires { ⌜ (length (now r) ≡ 81) × (service ≡ serviceCode (now r)) ⌝ }
+    requires { ⌜ (length (now r) ≡ recordBytes) × (service ≡ serviceCode (now r)) ⌝ }
     ensures { λ x. ⌜ ((f : Totals) (ks : List ℕ) → x ≡ firstFault f ks (now (r .entry)) (party30 (now (r .entry)))) ⌝ }
 {
     if fields::right_account_at(r, 22) {
         return Finding::Sound;
     }
+    if referred(r, service) {
+        return Finding::Sound;
+    }
     let account = fields::account_at(r, 22, 32);
-    let code = fields::code_at(r, 5);
-    let reference = referred(r, service);
-    Finding::Sound
-        .demand(is_number(account) | reference, 8, 7)
-        .demand(reference | ((service != 1) & (code == 4)), 11, 7)
+    if (service != 1) & (fields::code_at(r, 5) == 4) & is_number(account) {
+        return Finding::Sound;
+    }
+    layout::account_found(account, 7)
 }
 
 // A KID of service 01, which takes only the right end.
 fn charge_kid(r: &[u8]) -> bool
-    requires { ⌜ length (now r) ≡ 81 ⌝ }
+    requires { ⌜ length (now r) ≡ recordBytes ⌝ }
     ensures { λ x. ⌜ x ≡ atRight (part 50 74 (now (r .entry))) ⌝ }
 {
     fields::kid_right_at(r, 50, 74)
@@ -84,7 +87,7 @@ fn charge_kid(r: &[u8]) -> bool
 
 // Field 9, by service and type.
 pub fn kid_sound(r: &[u8], service: u8) -> bool
-    requires { ⌜ (length (now r) ≡ 81) × (service ≡ serviceCode (now r)) ⌝ }
+    requires { ⌜ (length (now r) ≡ recordBytes) × (service ≡ serviceCode (now r)) ⌝ }
     ensures { λ x. ⌜ x ≡ kidForm (serviceCode (now (r .entry))) (typeCode (now (r .entry))) (part 50 74 (now (r .entry))) ⌝ }
 {
     if service == 1 {

@@ -9,31 +9,31 @@ use lib.ListN.{length}
 use Rattle.dates.specs.Dates.{dayOf, readDay}
 use Rattle.dates.specs.declared.Day.{Day}
 use Rattle.fields.specs.Bytes.{every, isDigit, part, Inside}
-use Rattle.fields.specs.Numbers.{value, numberOf, pairsOf, paired, Digits, Number, NotDigits}
+use Rattle.fields.specs.Numbers.{value, numberOf, pairsOf, paired, Digits, Number, NotDigits, DigitPairs, Pairs, NoPairs}
 use Rattle.fields.proofs.Values.{number-is, number-not}
 use Rattle.fields.proofs.Width.{below-at}
 
--- three numbers of two digits in places of sixteen bits, behind an empty place
+-- three numbers of two digits of sixteen bits each, behind an empty one
 module _ (y m d : ℕ) (hm : m < 100) (hd : d < 100) where
-  abbrev places : ℕ
-  places = ((y * 65536 + m) * 65536 + d) * 65536 + 0
+  abbrev sideBySide : ℕ
+  sideBySide = ((y * 65536 + m) * 65536 + d) * 65536 + 0
 
-  year-in : places / 0x1000000000000 ≡ y
+  year-in : sideBySide / 0x1000000000000 ≡ y
   year-in = omega arith
 
-  month-in : places / 0x100000000 % 0x10000 ≡ m
+  month-in : sideBySide / 0x100000000 % 0x10000 ≡ m
   month-in =
-      let above : places / 0x100000000 ≡ y * 65536 + m = omega arith in
+      let above : sideBySide / 0x100000000 ≡ y * 65536 + m = omega arith in
       let own : (y * 65536 + m) % 0x10000 ≡ m = omega arith in
       ap (λ (z : ℕ). z % 0x10000) above ∙ own
 
-  day-in : places / 0x10000 % 0x10000 ≡ d
+  day-in : sideBySide / 0x10000 % 0x10000 ≡ d
   day-in =
-      let above : places / 0x10000 ≡ (y * 65536 + m) * 65536 + d = omega arith in
+      let above : sideBySide / 0x10000 ≡ (y * 65536 + m) * 65536 + d = omega arith in
       let own : ((y * 65536 + m) * 65536 + d) % 0x10000 ≡ d = omega arith in
       ap (λ (z : ℕ). z % 0x10000) above ∙ own
 
-  same-day : dayOf (2000 + places / 0x1000000000000) (places / 0x100000000 % 0x10000) (places / 0x10000 % 0x10000) ≡ dayOf (2000 + y) m d
+  same-day : dayOf (2000 + sideBySide / 0x1000000000000) (sideBySide / 0x100000000 % 0x10000) (sideBySide / 0x10000 % 0x10000) ≡ dayOf (2000 + y) m d
   same-day = rw (year-in, month-in, day-in)
 
 -- six digits have days below 100, and nothing before them
@@ -49,35 +49,35 @@ whole-days n h = let k = few-days n h in omega arith
 none-before : (n : ℕ) → n < 1000000 → n / 1000000 ≡ 0
 none-before n h = omega arith
 
-as-places : (n : ℕ) → n < 1000000 → pairsOf n ≡ ((n % 100 * 65536 + n / 100 % 100) * 65536 + n / 10000) * 65536 + 0
-as-places n h = rw (whole-days n h, none-before n h)
+as-numbers : (n : ℕ) → n < 1000000 → pairsOf n ≡ ((n % 100 * 65536 + n / 100 % 100) * 65536 + n / 10000) * 65536 + 0
+as-numbers n h = rw (whole-days n h, none-before n h)
 
 pub day-by-pairs : (p n : ℕ) → n < 1000000 → p ≡ pairsOf n → dayOf (2000 + p / 0x1000000000000) (p / 0x100000000 % 0x10000) (p / 0x10000 % 0x10000) ≡ readDay n
 unfolding readDay
 day-by-pairs p n h e =
-    ap (λ (z : ℕ). dayOf (2000 + z / 0x1000000000000) (z / 0x100000000 % 0x10000) (z / 0x10000 % 0x10000)) (e ∙ as-places n h)
+    ap (λ (z : ℕ). dayOf (2000 + z / 0x1000000000000) (z / 0x100000000 % 0x10000) (z / 0x10000 % 0x10000)) (e ∙ as-numbers n h)
     ∙ same-day (n % 100) (n / 100 % 100) (n / 10000) (two-digits (n / 100)) (few-days n h)
 
-number-one : (a b : ℕ) → Number a ≡ Number b → a ≡ b
-number-one a b h = cc
+pairs-one : (a b : ℕ) → Pairs a ≡ Pairs b → a ≡ b
+pairs-one a b h = cc
 
-no-number : (n : ℕ) → Number n ≡ NotDigits → ⊥
-no-number n h = let z : _≡_ {A = ℕ} 0 1 = cc in omega arith
+some-pairs : (n : ℕ) → Pairs n ≡ NoPairs → ⊥
+some-pairs n h = let z : _≡_ {A = ℕ} 0 1 = cc in omega arith
 
 -- a field of six digits that the code read in pairs
-module _ (s : List ℕ) (d : Digits) (e : d ≡ paired (numberOf s)) where
-  pub pairs-fail : d ≡ NotDigits → every isDigit s ≡ false
+module _ (s : List ℕ) (d : DigitPairs) (e : d ≡ paired (numberOf s)) where
+  pub pairs-fail : d ≡ NoPairs → every isDigit s ≡ false
   pairs-fail h = go (numberOf s) refl (sym e ∙ h)
     where
-      go : (x : Digits) → numberOf s ≡ x → paired x ≡ NotDigits → every isDigit s ≡ false
-      go (Number n) g k = absurd (no-number (pairsOf n) k)
+      go : (x : Digits) → numberOf s ≡ x → paired x ≡ NoPairs → every isDigit s ≡ false
+      go (Number n) g k = absurd (some-pairs (pairsOf n) k)
       go NotDigits g k = number-not s g
 
-  pub pairs-pass : (p : ℕ) → d ≡ Number p → (every isDigit s ≡ true) × (p ≡ pairsOf (value s))
+  pub pairs-pass : (p : ℕ) → d ≡ Pairs p → (every isDigit s ≡ true) × (p ≡ pairsOf (value s))
   pairs-pass p h = go (numberOf s) refl (sym e ∙ h)
     where
-      go : (x : Digits) → numberOf s ≡ x → paired x ≡ Number p → (every isDigit s ≡ true) × (p ≡ pairsOf (value s))
+      go : (x : Digits) → numberOf s ≡ x → paired x ≡ Pairs p → (every isDigit s ≡ true) × (p ≡ pairsOf (value s))
       go (Number n) g k =
           let both = number-is s n g in
-          (both .0, sym (number-one (pairsOf n) p k) ∙ ap pairsOf (sym (both .1)))
-      go NotDigits g k = absurd (no-number p (sym k))
+          (both .0, sym (pairs-one (pairsOf n) p k) ∙ ap pairsOf (sym (both .1)))
+      go NotDigits g k = absurd (some-pairs p (sym k))

@@ -3,13 +3,12 @@
 use Prim.Native.Nat.{ℕ}
 use mathlib.Core.Path.{_≡_}
 use mathlib.Core.List.{List}
-use Rattle.fields.specs.Bytes.{part}
-use Rattle.fields.specs.Numbers.{value}
 use Rattle.dates.specs.declared.Window.{Window}
 use Rattle.figures.specs.Figures.{transactionNumber}
 use Rattle.figures.specs.declared.totals.Totals.{Totals}
 use Rattle.layout.specs.Rows.{firstFault}
 use Rattle.layout.specs.declared.Finding.the-variants.{Sound}
+use Rattle.rules.specs.Fields.{numberIn, transactionField}
 use Rattle.rules.specs.Payments.{dateIn, amountIn}
 use Rattle.rules.specs.Layouts.{number30, date30, amount30}
 use Rattle.rules.specs.declared.Assignment.{Assignment}
@@ -20,7 +19,7 @@ use Rattle.record_30_values.specs.declared.Priced.{Priced}
 -- field 5
 pub record NumberedBy (a : Assignment) (r : List ℕ) (x : Numbered) : Type 0 where
   pub finding : (f : Totals) (ks : List ℕ) → x .finding ≡ firstFault f ks r (number30 a r)
-  pub number : x .finding ≡ Sound → x .number ≡ transactionNumber (value (part 9 15 r))
+  pub number : x .finding ≡ Sound → x .number ≡ transactionNumber (numberIn transactionField r)
 
 -- field 6
 pub record DatedBy (w : Window) (a : Assignment) (r : List ℕ) (x : Dated) : Type 0 where

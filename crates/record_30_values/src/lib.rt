@@ -3,6 +3,7 @@
 ghost use mathlib.Core.Path.{_≡_};
 ghost use Prim.Native.Nat.{ℕ, _<_};
 ghost use lib.ListN.{length};
+ghost use Rattle.limits.specs.Limits.{recordBytes};
 ghost use Rattle.dates.specs.Dates.{readDay};
 ghost use Rattle.fields.specs.Numbers.{pairsOf};
 ghost use Rattle.rules.specs.Payments.{ownLimit, limitFor};
@@ -10,11 +11,15 @@ ghost use Rattle.record_30_values.specs.Values.{NumberedBy, DatedBy, Pri
 use dates::Date;
 use dates::Day;
 use dates::Window;
+use field_digits::DigitPairs;
 use field_digits::Digits;
 use figures::amounts::Amount;
 use figures::counts::TransactionNumber;
 use figures::totals::Totals;
 use layout::Finding;
+use limits::MOST_OF_ALL;
+use limits::MOST_OF_SERVICE_04;
+use limits::MOST_OF_TYPE_04;
 use rules::Assignment;
 use services::Service;
 
@@ -35,7 +40,7 @@ pub struct Priced {
 
 // Field 5, the number that comes next.
 pub fn number(r: &[u8], a: Assignment) -> Numbered
-    requires { ⌜ length (now r) ≡ 81 ⌝ }
+    requires { ⌜ length (now r) ≡ recordBytes ⌝ }
     ensures { λ x. ⌜ NumberedBy a (now (r .entry)) x ⌝ }
 {
     let Digits::Number(n) = fields::number_at(r, 9, 15) else {
@@ -65,10 +70,10 @@ fn day_in(pairs: u64) -> Day
 
 // Field 6, a date that is in time for the service.
 pub fn date(r: &[u8], w: Window, a: Assignment) -> Dated
-    requires { ⌜ length (now r) ≡ 81 ⌝ }
+    requires { ⌜ length (now r) ≡ recordBytes ⌝ }
     ensures { λ x. ⌜ DatedBy w a (now (r .entry)) x ⌝ }
 {
-    let Digits::Number(pairs) = fields::pairs_at(r, 16) else {
+    let DigitPairs::Pairs(pairs) = fields::pairs_at(r, 16) else {
         return Dated {
             finding: Finding::Fault(8, 6),
             date: Date(0),
@@ -88,11 +93,11 @@ pub fn date(r: &[u8], w: Window, a: Assignment) -> Dated
 }
 
 // The amount's own limit, by the type.
-fn allowed(code: u8, n: u64) -> bool
+fn keeps_own_limit(code: u8, n: u64) -> bool
     ensures { λ x. ⌜ x ≡ ownLimit code n ⌝ }
 {
     if code == 4 {
-        return n <= 9999999999;
+        return n <= MOST_OF_TYPE_04;
     }
     if code == 16 {
         return 0 < n;
@@ -105,14 +110,14 @@ fn limit_for(service: Service) -> Amount
     ensures { λ x. ⌜ x ≡ limitFor service ⌝ }
 {
     match service {
-        Service::Autogiro => Amount(99999999999999999),
-        Service::Remittance => Amount(9999999999999),
+        Service::Autogiro => Amount(MOST_OF_ALL),
+        Service::Remittance => Amount(MOST_OF_SERVICE_04),
     }
 }
 
 // Field 8: its own limit, the assignment's, the file's.
 pub fn amount(r: &[u8], a: Assignment, file: Totals) -> Priced
-    requires { ⌜ length (now r) ≡ 81 ⌝ }
+    requires { ⌜ length (now r) ≡ recordBytes ⌝ }
     ensures { λ x. ⌜ PricedBy a file (now (r .entry)) x ⌝ }
 {
     let Digits::Number(n) = fields::number_at(r, 33, 49) else {
@@ -127,9 +132,9 @@ pub fn amount(r: &[u8], a: Assignment, file: Totals) -> Priced
     let whole = file.sum;
     Priced {
         finding: Finding::Sound
-            .demand(allowed(fields::code_at(r, 5), n), 13, 8)
+            .demand(keeps_own_limit(fields::code_at(r, 5), n), 13, 8)
             .demand(sum.holds(amount, limit_for(service)), 13, 8)
-            .demand(whole.holds(amount, Amount(99999999999999999)), 13, 8),
+            .demand(whole.holds(amount, Amount(MOST_OF_ALL)), 13, 8),
         amount,
     }
 }

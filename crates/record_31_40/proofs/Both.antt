@@ -1,14 +1,14 @@
 -- A record in two pieces: what it repeats of its record 30, and its own fields.
 -- Assumes nothing.
 use Prim.Native.Nat.{ℕ}
-use mathlib.Core.Path.{_≡_, refl, sym, _∙_, ap}
+use mathlib.Core.Path.{_≡_, sym, _∙_, ap}
 use mathlib.Core.List.{List, _++_}
 use borrow.Author.Tests.{eqb-true}
 use Rattle.figures.specs.declared.totals.Totals.{Totals}
 use Rattle.layout.specs.Rows.{Row, firstFault, AllHold}
 use Rattle.layout.specs.declared.Finding.{Finding}
 use Rattle.layout.specs.declared.Finding.the-variants.{Sound}
-use Rattle.layout.proofs.Laws.{sound-of-all, goes-on}
+use Rattle.layout.proofs.Laws.{goes-on}
 use Rattle.rules.specs.Codes.{typeCode}
 use Rattle.rules.specs.Layouts.{repeats}
 use Rattle.rules.specs.declared.Assignment.{Assignment}
@@ -16,10 +16,6 @@ use Rattle.record_31_40.specs.Pieces.{ownFields}
 use Rattle.record_31_40.specs.declared.Detail.{Detail}
 
 module _ (f : Totals) (ks : List ℕ) (r : List ℕ) where
-  -- no fault where the rows of both pieces hold
-  pub both-hold : (ws vs : List Row) → AllHold f ks r ws → AllHold f ks r vs → Sound ≡ firstFault f ks r (ws ++ vs)
-  both-hold ws vs h g = goes-on f ks r ws vs (sym (sound-of-all f ks r ws h)) refl (sym (sound-of-all f ks r vs g))
-
   -- a record that repeats its record 30 is of that type
   pub same-type : (a : Assignment) → AllHold f ks r (repeats a r) → a .code ≡ typeCode r
   unfolding AllHold

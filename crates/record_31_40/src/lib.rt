@@ -1,16 +1,17 @@
-// Records behind a record 30: its second half (31) and the payee's address (40).
+// Records after a record 30: its second half (31) and the payee's address (40).
 
 ghost use mathlib.Core.Path.{_≡_};
 ghost use mathlib.Core.Bool.{true};
 ghost use mathlib.Core.List.{List, _++_};
 ghost use Prim.Native.Nat.{ℕ};
 ghost use lib.ListN.{length};
+ghost use Rattle.limits.specs.Limits.{recordBytes};
 ghost use Rattle.fields.specs.Bytes.{every, isText, part, Inside};
 ghost use Rattle.layout.specs.Rows.{firstFault, AllHold};
 ghost use Rattle.rules.specs.Codes.{typeCode};
-ghost use Rattle.rules.specs.Layouts.{repeats, record31, record40};
+ghost use Rattle.rules.specs.Layouts.{repeats, texts31, address40, record31, record40};
 ghost use Rattle.rules.specs.Payments.{nameForm, postalForm, fillerForm};
-ghost use Rattle.record_31_40.specs.Pieces.{texts31, address40, ownFields};
+ghost use Rattle.record_31_40.specs.Pieces.{ownFields};
 use field_bytes::classes::Class;
 use figures::counts::TransactionNumber;
 use figures::totals::Totals;
@@ -34,7 +35,7 @@ fn text_at(r: &[u8], from: usize, to: usize) -> bool
 
 // Fields 6 to 9 of a record 31 hold. Zeros are text too, so that 64 positions are tested at once.
 fn sound31(r: &[u8]) -> bool
-    requires { ⌜ length (now r) ≡ 81 ⌝ }
+    requires { ⌜ length (now r) ≡ recordBytes ⌝ }
     ensures { λ x. ⌜ (x ≡ true → (f : Totals) (ks : List ℕ) → AllHold f ks (now (r .entry)) texts31) ⌝ }
 {
     fields::all_at(Class::Text, r, 16, 79) & fields::all_at(Class::Zero, r, 76, 80)
@@ -42,7 +43,7 @@ fn sound31(r: &[u8]) -> bool
 
 // Fields 6 to 9 of a record 31, for their first fault.
 fn texts(r: &[u8]) -> Finding
-    requires { ⌜ length (now r) ≡ 81 ⌝ }
+    requires { ⌜ length (now r) ≡ recordBytes ⌝ }
     ensures { λ x. ⌜ ((f : Totals) (ks : List ℕ) → x ≡ firstFault f ks (now (r .entry)) texts31) ⌝ }
 {
     Finding::Sound
@@ -88,7 +89,7 @@ fn filler_at(code: u8, r: &[u8], from: usize, to: usize) -> bool
 
 // Fields 6 to 10 of a record 40 of this type hold.
 fn sound40(r: &[u8], code: u8) -> bool
-    requires { ⌜ length (now r) ≡ 81 ⌝ }
+    requires { ⌜ length (now r) ≡ recordBytes ⌝ }
     ensures { λ x. ⌜ (x ≡ true → (f : Totals) (ks : List ℕ) → AllHold f ks (now (r .entry)) (address40 code)) ⌝ }
 {
     name_at(code, r, 16, 45)
@@ -100,7 +101,7 @@ fn sound40(r: &[u8], code: u8) -> bool
 
 // Fields 6 to 10 of a record 40 of its own type, for their first fault.
 fn address(r: &[u8]) -> Finding
-    requires { ⌜ length (now r) ≡ 81 ⌝ }
+    requires { ⌜ length (now r) ≡ recordBytes ⌝ }
     ensures { λ x. ⌜ ((f : Totals) (ks : List ℕ) → x ≡ firstFault f ks (now (r .entry)) (address40 (typeCode (now (r .entry))))) ⌝ }
 {
     let code = fields::code_at(r, 5);
@@ -114,7 +115,7 @@ fn address(r: &[u8]) -> Finding
 
 // The first fault of a 31 or 40 that is not sound. Both checks call it, so that the compiler keeps the search out of the loop over records.
 fn look(detail: Detail, r: &[u8], service: Service, code: u8, number: TransactionNumber) -> Finding
-    requires { ⌜ length (now r) ≡ 81 ⌝ }
+    requires { ⌜ length (now r) ≡ recordBytes ⌝ }
     ensures { λ x. ⌜ ((a : Assignment) → a .service ≡ service → a .code ≡ code → a .number ≡ number → (f : Totals) (ks : List ℕ) → x ≡ firstFault f ks (now (r .entry)) (repeats a (now (r .entry)) ++ ownFields detail (now (r .entry)))) ⌝ }
 {
     let head = record_shared::repeating(r, service, code, number);
@@ -128,7 +129,7 @@ fn look(detail: Detail, r: &[u8], service: Service, code: u8, number: Transactio
 }
 
 pub fn check31(r: &[u8], a: Assignment) -> Finding
-    requires { ⌜ length (now r) ≡ 81 ⌝ }
+    requires { ⌜ length (now r) ≡ recordBytes ⌝ }
     ensures { λ x. ⌜ ((f : Totals) (ks : List ℕ) → x ≡ firstFault f ks (now (r .entry)) (record31 a (now (r .entry)))) ⌝ }
 {
     let service = a.service;
@@ -141,7 +142,7 @@ pub fn check31(r: &[u8], a: Assignment) -> Finding
 }
 
 pub fn check40(r: &[u8], a: Assignment) -> Finding
-    requires { ⌜ length (now r) ≡ 81 ⌝ }
+    requires { ⌜ length (now r) ≡ recordBytes ⌝ }
     ensures { λ x. ⌜ ((f : Totals) (ks : List ℕ) → x ≡ firstFault f ks (now (r .entry)) (record40 a (now (r .entry)))) ⌝ }
 {
     let service = a.service;

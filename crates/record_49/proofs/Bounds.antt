@@ -1,76 +1,69 @@
--- A number from 1 to a bound, read from digits: what the reader's tests say of it, and that lines and columns are such numbers.
+-- A number from 1 to a bound, read from digits: what the reader's tests say of it, what its answers say, and that lines and columns are such numbers.
 -- Assumes nothing.
-use Prim.Native.Nat.{ℕ, _≤_, _<_}
+use Prim.Native.Nat.{ℕ, _≤_}
 use mathlib.Core.Path.{_≡_, refl, sym, _∙_, ap}
 use mathlib.Core.List.{List}
-use mathlib.Core.Bool.{Bool, true, false, _&&_, and-true, and-false}
+use mathlib.Core.Bool.{Bool, true, false, _&&_}
 use native.Mathlib.Omega.{arith}
-use borrow.Author.Tests.{leb-true, leb-false, le-leb, lt-leb, lt-ltb}
-use lib.Dec.{leb, ltb}
+use borrow.Author.Tests.{leb-true}
+use lib.Dec.{leb}
 use Rattle.fields.specs.Bytes.{every, isDigit}
 use Rattle.fields.specs.Numbers.{value}
-use Rattle.fields.proofs.Tests.{and-left, and-right}
+use Rattle.fields.proofs.Tests.{and-right}
 use Rattle.rules.specs.Payments.{isLine, isColumn}
-use Rattle.record_49.specs.Pieces.{isUpTo, upTo}
+use Rattle.record_49.specs.Bounds.{isUpTo, upTo}
+use Rattle.record_49.specs.declared.Bounded.{Bounded}
+use Rattle.record_49.specs.declared.Bounded.the-variants.{InBounds, OutOfBounds}
 
 module _ (most : ℕ) (s : List ℕ) where
-  pub up-to-yes : isUpTo most s ≡ true → upTo most s ≡ value s
+  up-to-yes : isUpTo most s ≡ true → upTo most s ≡ InBounds (value s)
   unfolding upTo
   up-to-yes h = rw h
 
-  up-to-no : isUpTo most s ≡ false → upTo most s ≡ 0
+  up-to-no : isUpTo most s ≡ false → upTo most s ≡ OutOfBounds
   unfolding upTo
   up-to-no h = rw h
 
-  -- what the test says
-  test-low : isUpTo most s ≡ true → 1 ≤ value s
-  unfolding isUpTo
-  test-low h =
-      leb-true 1 (value s) (and-left (leb 1 (value s)) (leb (value s) most) (and-right (every isDigit s) (leb 1 (value s) && leb (value s) most) h))
-
-  test-high : isUpTo most s ≡ true → value s ≤ most
-  unfolding isUpTo
-  test-high h =
-      leb-true (value s) most (and-right (leb 1 (value s)) (leb (value s) most) (and-right (every isDigit s) (leb 1 (value s) && leb (value s) most) h))
-
-  -- bytes that are no digits, and a number above the bound
-  pub no-digits : every isDigit s ≡ false → 0 ≡ upTo most s
+  -- what the reader tests: digits, and the number that they write
+  pub no-digits : every isDigit s ≡ false → OutOfBounds ≡ upTo most s
   unfolding isUpTo
   no-digits h = sym (up-to-no (rw h))
 
-  pub too-large : (n : ℕ) → value s ≡ n → most < n → 0 ≡ upTo most s
+  module _ (d : every isDigit s ≡ true) (n : ℕ) (e : value s ≡ n) where
+    tested : isUpTo most s ≡ leb 1 n && leb n most
+    unfolding isUpTo
+    tested = simp (d, e)
+
+    pub out-of-bounds : leb 1 n && leb n most ≡ false → OutOfBounds ≡ upTo most s
+    out-of-bounds h = sym (up-to-no (tested ∙ h))
+
+    pub in-bounds : leb 1 n && leb n most ≡ true → InBounds n ≡ upTo most s
+    in-bounds h = ap InBounds (sym e) ∙ sym (up-to-yes (tested ∙ h))
+
+  high : isUpTo most s ≡ true → value s ≤ most
   unfolding isUpTo
-  too-large n e h = sym (up-to-no (simp (e, lt-leb n most h, and-false)))
+  high h = leb-true (value s) most (and-right (leb 1 (value s)) (leb (value s) most) (and-right (every isDigit s) (leb 1 (value s) && leb (value s) most) h))
 
-  -- a number within the bound, 0 among them
-  test-bound : (n : ℕ) → every isDigit s ≡ true → value s ≡ n → n ≤ most → isUpTo most s ≡ leb 1 n
-  unfolding isUpTo
-  test-bound n d e h = simp (d, e, le-leb n most h, and-true)
-
-  pub in-bound : (n : ℕ) → every isDigit s ≡ true → value s ≡ n → n ≤ most → n ≡ upTo most s
-  in-bound n d e h = go (leb 1 n) refl
+  -- what an answer of the reader says of the field
+  pub bounds-fail : upTo most s ≡ OutOfBounds → isUpTo most s ≡ false
+  bounds-fail h = go (isUpTo most s) refl
     where
-      go : (b : Bool) → leb 1 n ≡ b → n ≡ upTo most s
-      go true k = sym (up-to-yes (test-bound n d e h ∙ k) ∙ e)
-      go false k = let z : n ≡ 0 = omega (arith, leb-false 1 n k) in z ∙ sym (up-to-no (test-bound n d e h ∙ k))
+      go : (b : Bool) → isUpTo most s ≡ b → isUpTo most s ≡ false
+      go true e = let k : InBounds (value s) ≡ OutOfBounds = sym (up-to-yes e) ∙ h in cc
+      go false e = e
 
-  at-most : upTo most s ≤ most
-  at-most = go (isUpTo most s) refl
+  pub bounds-pass : (n : ℕ) → upTo most s ≡ InBounds n → (isUpTo most s ≡ true) × ((value s ≡ n) × (n ≤ most))
+  bounds-pass n h = go (isUpTo most s) refl
     where
-      go : (b : Bool) → isUpTo most s ≡ b → upTo most s ≤ most
-      go true h = omega (arith, up-to-yes h, test-high h)
-      go false h = omega (arith, up-to-no h)
+      same : InBounds (value s) ≡ InBounds n → value s ≡ n
+      same k = cc
 
-  pub bounded : (n : ℕ) → n ≡ upTo most s → n ≤ most
-  bounded n e = omega (arith, at-most)
+      nothing : OutOfBounds ≡ InBounds n → ⊥
+      nothing k = let z : _≡_ {A = ℕ} 0 1 = cc in omega arith
 
-  -- above 0 exactly where it is one
-  pub above-zero : ltb 0 (upTo most s) ≡ isUpTo most s
-  above-zero = go (isUpTo most s) refl
-    where
-      go : (b : Bool) → isUpTo most s ≡ b → ltb 0 (upTo most s) ≡ isUpTo most s
-      go true h = ap (ltb 0) (up-to-yes h) ∙ lt-ltb 0 (value s) (test-low h) ∙ sym h
-      go false h = ap (ltb 0) (up-to-no h) ∙ sym h
+      go : (b : Bool) → isUpTo most s ≡ b → (isUpTo most s ≡ true) × ((value s ≡ n) × (n ≤ most))
+      go true e = let k = same (sym (up-to-yes e) ∙ h) in (e, (k, rw (← k) (high e)))
+      go false e = let k : OutOfBounds ≡ InBounds n = sym (up-to-no e) ∙ h in absurd (nothing k)
 
 -- lines and columns
 pub line-test : (s : List ℕ) → isUpTo 21 s ≡ isLine s

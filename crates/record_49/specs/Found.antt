@@ -1,4 +1,4 @@
--- What the check of 49 answers: the first fault of the table, and where there is none, the places taken behind the record.
+-- What the check of 49 answers: the first fault of the table, and where there is none, the places taken after the record.
 -- Assumes nothing.
 use Prim.Native.Nat.{ℕ}
 use mathlib.Core.Path.{_≡_}
@@ -6,10 +6,9 @@ use mathlib.Core.List.{List}
 use Rattle.figures.specs.declared.totals.Totals.{Totals}
 use Rattle.layout.specs.Rows.{firstFault}
 use Rattle.layout.specs.declared.Finding.the-variants.{Sound}
-use Rattle.rules.specs.Layouts.{record49}
+use Rattle.rules.specs.Layouts.{place49, record49}
 use Rattle.rules.specs.Messages.{placeIn, withPlace}
 use Rattle.rules.specs.declared.Assignment.{Assignment}
-use Rattle.record_49.specs.Pieces.{place49}
 use Rattle.record_49.specs.declared.Placed.{Placed}
 
 pub record PlacedBy (a : Assignment) (r : List ℕ) (x : Placed) : Type 0 where

@@ -7,9 +7,8 @@ use Rattle.figures.specs.Figures.{amount}
 use Rattle.figures.specs.declared.totals.Totals.{Totals}
 use Rattle.layout.specs.Rows.{firstFault}
 use Rattle.layout.specs.declared.Finding.the-variants.{Sound}
-use Rattle.rules.specs.Layouts.{record50, amount50}
+use Rattle.rules.specs.Layouts.{sum50, amount50, record50}
 use Rattle.rules.specs.declared.Assignment.{Assignment}
-use Rattle.record_50.specs.Pieces.{sum50}
 use Rattle.record_50.specs.declared.Specified.{Specified}
 
 pub record SpecifiedBy (a : Assignment) (r : List ℕ) (x : Specified) : Type 0 where

@@ -1,23 +1,14 @@
--- Document 01, "Layouts": fields 1 to 3 of the records that stand outside assignments, 10 and 89, and fields 1 and 2 of those within one.
+-- Document 01, "Layouts": fields 1 and 2 of the records within an assignment.
 -- Assumes nothing.
 use Prim.Native.Nat.{ℕ}
 use mathlib.Core.Path.{_≡_}
-use mathlib.Core.List.{List, [], _∷_}
+use mathlib.Core.List.{List}
 use mathlib.Core.Bool.{true}
 use Rattle.services.specs.declared.Service.{Service}
 use Rattle.services.specs.declared.Service.the-variants.{Autogiro, Remittance}
 use Rattle.fields.specs.Bytes.{same, text, part}
-use Rattle.layout.specs.Rules.{fixed}
-use Rattle.layout.specs.Rows.{Row, at}
 use Rattle.services.specs.Services.{codeFor}
 use Rattle.rules.specs.Codes.{serviceCode}
-
-abbrev pub outside : List Row
-outside =
-    at 1 1 2 (fixed "NY") ∷
-    at 2 3 4 (fixed "00") ∷
-    at 3 5 6 (fixed "00") ∷
-    []
 
 -- positions 1-4 of a record within an assignment of the service
 abbrev pub headOf : Service → List ℕ

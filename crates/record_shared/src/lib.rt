@@ -5,27 +5,18 @@ ghost use mathlib.Core.Bool.{true};
 ghost use mathlib.Core.List.{List};
 ghost use Prim.Native.Nat.{ℕ, _<_};
 ghost use lib.ListN.{length};
+ghost use Rattle.limits.specs.Limits.{recordBytes};
 ghost use Rattle.fields.specs.Words.{bytesOf};
 ghost use Rattle.figures.specs.Figures.{transactionNumber};
 ghost use Rattle.layout.specs.Rows.{firstFault, AllHold};
-ghost use Rattle.services.specs.Services.{codeFor};
-ghost use Rattle.rules.specs.Layouts.{belongs, sameNumber, repeats};
-ghost use Rattle.record_shared.specs.Heads.{outside, headOf, Belonging};
+ghost use Rattle.rules.specs.Layouts.{outside, belongs, sameNumber, repeats};
+ghost use Rattle.record_shared.specs.Heads.{headOf, Belonging};
 use field_digits::Digits;
 use figures::counts::TransactionNumber;
 use figures::totals::Totals;
 use layout::Finding;
 use rules::Assignment;
 use services::Service;
-
-pub fn code_for(service: Service) -> u8
-    ensures { λ x. ⌜ x ≡ codeFor service ⌝ }
-{
-    match service {
-        Service::Autogiro => 1,
-        Service::Remittance => 4,
-    }
-}
 
 // A number of seven digits as a transaction's.
 pub fn numbered(n: u64) -> TransactionNumber
@@ -37,7 +28,7 @@ pub fn numbered(n: u64) -> TransactionNumber
 
 // Fields 1 to 3 of 10 and 89.
 pub fn outside(r: &[u8]) -> Finding
-    requires { ⌜ length (now r) ≡ 81 ⌝ }
+    requires { ⌜ length (now r) ≡ recordBytes ⌝ }
     ensures { λ x. ⌜ ((f : Totals) (ks : List ℕ) → x ≡ firstFault f ks (now (r .entry)) outside) ⌝ }
 {
     Finding::Sound
@@ -48,12 +39,12 @@ pub fn outside(r: &[u8]) -> Finding
 
 // Fields 1 and 2 within an assignment of the service.
 pub fn belonging(r: &[u8], service: Service) -> Finding
-    requires { ⌜ length (now r) ≡ 81 ⌝ }
+    requires { ⌜ length (now r) ≡ recordBytes ⌝ }
     ensures { λ x. ⌜ ((a : Assignment) → a .service ≡ service → (f : Totals) (ks : List ℕ) → x ≡ firstFault f ks (now (r .entry)) (belongs a (now (r .entry)))) ⌝ }
 {
     Finding::Sound
         .demand(fields::same_at(r, 1, 2, b"NY"), 7, 1)
-        .demand(fields::code_at(r, 3) == code_for(service), 12, 2)
+        .demand(fields::code_at(r, 3) == services::code_for(service), 12, 2)
 }
 
 // NY and the code of the service, as one number.
@@ -68,7 +59,7 @@ fn head_of(service: Service) -> u64
 
 // Fields 1 and 2 belong to an assignment of the service: told by one comparison.
 pub fn belongs_to(r: &[u8], service: Service) -> bool
-    requires { ⌜ length (now r) ≡ 81 ⌝ }
+    requires { ⌜ length (now r) ≡ recordBytes ⌝ }
     ensures { λ x. ⌜ (x ≡ true → Belonging service (now (r .entry))) ⌝ }
 {
     fields::four_at(r, 1) == head_of(service)
@@ -76,7 +67,7 @@ pub fn belongs_to(r: &[u8], service: Service) -> bool
 
 // Field 5, the number of the transaction at hand.
 pub fn same_number(r: &[u8], number: TransactionNumber) -> Finding
-    requires { ⌜ length (now r) ≡ 81 ⌝ }
+    requires { ⌜ length (now r) ≡ recordBytes ⌝ }
     ensures { λ x. ⌜ ((a : Assignment) → a .number ≡ number → (f : Totals) (ks : List ℕ) → x ≡ firstFault f ks (now (r .entry)) (sameNumber a (now (r .entry)))) ⌝ }
 {
     let Digits::Number(n) = fields::number_at(r, 9, 15) else {
@@ -87,7 +78,7 @@ pub fn same_number(r: &[u8], number: TransactionNumber) -> Finding
 
 // Fields 1 to 5 repeat the record 30 of this service, type and number.
 pub fn repeats(r: &[u8], service: Service, code: u8, number: TransactionNumber) -> bool
-    requires { ⌜ length (now r) ≡ 81 ⌝ }
+    requires { ⌜ length (now r) ≡ recordBytes ⌝ }
     ensures { λ x. ⌜ (x ≡ true → (a : Assignment) → a .service ≡ service → a .code ≡ code → a .number ≡ number → (f : Totals) (ks : List ℕ) → AllHold f ks (now (r .entry)) (repeats a (now (r .entry)))) ⌝ }
 {
     let here = belongs_to(r, service) & (fields::code_at(r, 5) == code);
@@ -99,7 +90,7 @@ pub fn repeats(r: &[u8], service: Service, code: u8, number: TransactionNumber) 
 
 // Fields 1 to 5 of 31, 40 and 49, which repeat their record 30.
 pub fn repeating(r: &[u8], service: Service, code: u8, number: TransactionNumber) -> Finding
-    requires { ⌜ length (now r) ≡ 81 ⌝ }
+    requires { ⌜ length (now r) ≡ recordBytes ⌝ }
     ensures { λ x. ⌜ ((a : Assignment) → a .service ≡ service → a .code ≡ code → a .number ≡ number → (f : Totals) (ks : List ℕ) → x ≡ firstFault f ks (now (r .entry)) (repeats a (now (r .entry)))) ⌝ }
 {
     let head = belonging(r, service).demand(fields::code_at(r, 5) == code, 12, 3);

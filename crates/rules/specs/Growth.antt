@@ -30,7 +30,7 @@ use Rattle.rules.specs.declared.State.{State}
 abbrev pub gainFor : Kind → List ℕ → Totals
 gainFor k r = if eqb (numberOfKind k) 30 then oneTransaction (amountIn r) (dateIn r) else (if eqb (numberOfKind k) 20 then oneAssignment else oneRecord)
 
--- before any assignment, behind the record of this type
+-- before any assignment, after the record of this type
 abbrev pub nothingYet : Kind → Assignment
 nothingYet k = record { last = k; service = Remittance; totals = noneYet; number = transactionNumber 0; code = 0; due = amount 0; group = emptyGroup; places = 0 }
 
@@ -98,7 +98,7 @@ keys r = keysFor (kindOf r) r
 abbrev pub afterFor : Kind → State → List ℕ → State
 afterFor k st r = record { file = st .file ⊕ gainFor k r; assignment = turnFor k r (st .assignment) }
 
--- the state behind a record, sound or not
+-- the state after a record, sound or not
 abbrev pub after : State → List ℕ → State
 after st r = afterFor (kindOf r) st r
 

@@ -227,16 +227,16 @@ record88 a r =
     [])
 
 -- a figure of record 89: Digits, and the file's own
-abbrev pub files : Field → List ℕ → Figure → List Row
-files x r w = on x digits ∷ file (figure w (numberIn x r)) 18 (x .number) ∷ []
+abbrev pub ofFile : Field → List ℕ → Figure → List Row
+ofFile x r w = on x digits ∷ file (figure w (numberIn x r)) 18 (x .number) ∷ []
 
 abbrev pub record89 : List ℕ → List Row
 record89 r =
     outside ++
-    files transactionsField r transactions ++
-    files recordsField r records ++
-    files sumField r sum ++
-    files firstDateField r firstDate ++
+    ofFile transactionsField r transactions ++
+    ofFile recordsField r records ++
+    ofFile sumField r sum ++
+    ofFile firstDateField r firstDate ++
     (at 9 48 80 zeros ∷
     [])
 

@@ -15,12 +15,12 @@ use Rattle.rules.specs.declared.Mode.{Mode}
 use Rattle.rules.specs.declared.Mode.the-variants.{File, Draft}
 use Rattle.rules.specs.declared.Assignment.{Assignment}
 
--- behind a whole transaction: the next one, or the assignment's end; in a draft, where 88 might come, a 20 may
+-- after a whole transaction: the next one, or the assignment's end; in a draft, where 88 might come, a 20 may
 abbrev pub next : Mode → List ℕ
 next File = 30 ∷ 88 ∷ []
 next Draft = 30 ∷ 20 ∷ []
 
--- behind a 31, by service and transaction type
+-- after a 31, by service and transaction type
 abbrev pub behind31 : Mode → Service → ℕ → List ℕ
 behind31 m Remittance t =
     if eqb t 16 then (50 ∷ []) else (if eqb t 4 then (40 ∷ []) else (if eqb t 3 then (40 ∷ next m) else next m))
@@ -42,7 +42,7 @@ behind m R89 s t = []
 unfoldable pub mayFollow : Mode → Assignment → Kind → Bool
 mayFollow m a k = member (numberOfKind k) (behind m (a .last) (a .service) (a .code))
 
--- a file ends behind its 89; a draft where 88 might come
+-- a file ends after its 89; a draft where 88 might come
 abbrev pub isEnd : Kind → Bool
 isEnd k = eqb (numberOfKind k) 89
 

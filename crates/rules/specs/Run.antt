@@ -30,7 +30,7 @@ use Rattle.rules.specs.declared.Step.the-variants.{Next, Stop}
 use Rattle.rules.specs.declared.Verdict.{Verdict}
 use Rattle.rules.specs.declared.Verdict.the-variants.{Accepted}
 
--- one record's step: on to the state behind it, or stop at its first fault
+-- one record's step: on to the state after it, or stop at its first fault
 abbrev pub stepped : Finding → State → Step
 stepped Sound s = Next s
 stepped (Fault n k) s = Stop n k
@@ -42,7 +42,7 @@ kindStep k w st ks r = stepped (firstFault (st .file) ks r (tableFor k w (st .as
 unfoldable pub stepOf : Mode → Window → State → List ℕ → List ℕ → Step
 stepOf m w st ks r = stepped (firstFault (st .file) ks r (rows m w (st .assignment) r)) (after st r)
 
--- the end behind i records: 6 where it may not come; in a draft also 14, where the last group does not give its amount
+-- the end after i records: 6 where it may not come; in a draft also 14, where the last group does not give its amount
 abbrev pub ended : Mode → Assignment → Bool
 ended File a = true
 ended Draft a = gives (a .group) (a .due)
@@ -56,12 +56,12 @@ abbrev pub onStep : Step → ℕ → Verdict → Verdict
 onStep (Next s) i v = v
 onStep (Stop n k) i v = refused n 0 (i + 1) k
 
--- the records in turn, behind i records that left this state and these keys
+-- the records in turn, after i records that left this state and these keys
 unfoldable pub run : Mode → Window → ℕ → State → List ℕ → List (List ℕ) → Verdict
 run m w i st ks [] = atEnd m i st
 run m w i st ks (r ∷ rs) = onStep (stepOf m w st ks r) i (run m w (i + 1) (after st r) (ks ++ keys r) rs)
 
--- each record is its own 81 bytes: the one behind the first k, and all of them
+-- each record is its own 81 bytes: the one after the first k, and all of them
 abbrev pub recordAt : ℕ → List ℕ → List ℕ
 recordAt k b = take recordBytes (drop (recordBytes * k) b)
 

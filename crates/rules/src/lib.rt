@@ -105,7 +105,7 @@ pub enum Verdict {
     Refused(Refusal),
 }
 
-// The record behind the first k: its own 81 bytes of the file.
+// The record after the first k: its own 81 bytes of the file.
 pub fn record_at(bytes: &[u8], k: usize) -> &[u8]
     requires { ⌜ recordBytes * k + recordBytes ≤ length (now bytes) ⌝ }
     ensures { λ r. ⌜ (now r ≡ recordAt k (now (bytes .entry))) × (length (now r) ≡ recordBytes) ⌝ }

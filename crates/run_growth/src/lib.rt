@@ -1,6 +1,7 @@
 // What a sound record makes of the assignment at hand.
 
 ghost use mathlib.Core.Path.{_≡_};
+ghost use Rattle.limits.specs.Limits.{mostRecords};
 ghost use Rattle.figures.specs.Totals.{oneRecord, oneTransaction};
 ghost use Rattle.run_growth.specs.Bounds.{Bounded, WithinWide};
 ghost use Rattle.rules.specs.Growth.{nothingYet, opened, passed, dueFor, paidAs, groupedAs};
@@ -13,7 +14,7 @@ use rules::Assignment;
 use rules::Kind;
 use services::Service;
 
-// Before any assignment, behind the record of this type.
+// Before any assignment, after the record of this type.
 pub fn before_assignments(kind: Kind) -> Assignment
     ensures { λ x. ⌜ x ≡ nothingYet kind ⌝ }
 {
@@ -29,7 +30,7 @@ pub fn before_assignments(kind: Kind) -> Assignment
     }
 }
 
-// Behind a record 20 of the service.
+// After a record 20 of the service.
 pub fn open_for(service: Service) -> Assignment
     ensures { λ x. ⌜ x ≡ opened service ⌝ }
 {
@@ -45,9 +46,9 @@ pub fn open_for(service: Service) -> Assignment
     }
 }
 
-// Behind a record that brings no transaction, with the group and the places as they then are.
+// After a record that brings no transaction, with the group and the places as they then are.
 pub fn pass(a: Assignment, kind: Kind, group: Group, places: u64) -> Assignment
-    requires { ⌜ Bounded 200000 (a .totals .totals) ⌝ }
+    requires { ⌜ Bounded mostRecords (a .totals .totals) ⌝ }
     ensures { λ x. ⌜ x ≡ passed kind group places a ⌝ }
 {
     let service = a.service;
@@ -76,7 +77,7 @@ fn due_for(code: u8, amount: Amount) -> Amount
     Amount(0)
 }
 
-// Behind a record 30 of this type, number, amount and date.
+// After a record 30 of this type, number, amount and date.
 pub fn pay(
     a: Assignment,
     code: u8,
@@ -84,7 +85,7 @@ pub fn pay(
     amount: Amount,
     date: Date,
 ) -> Assignment
-    requires { ⌜ Bounded 200000 (a .totals .totals) × WithinWide amount ⌝ }
+    requires { ⌜ Bounded mostRecords (a .totals .totals) × WithinWide amount ⌝ }
     ensures { λ x. ⌜ x ≡ paidAs code number amount date a ⌝ }
 {
     let service = a.service;

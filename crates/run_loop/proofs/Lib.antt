@@ -1,4 +1,3 @@
 pub mod Keys
-pub mod Figures
 pub mod Bounds
 pub mod Loop

@@ -16,7 +16,7 @@ abbrev pub isDraft : Mode → Bool
 isDraft File = false
 isDraft Draft = true
 
--- behind a record of this number, with type 4 and type 16 told
+-- after a record of this number, with type 4 and type 16 told
 abbrev pub wholeBehind : ℕ → Bool → Bool → Bool → Bool
 wholeBehind last remittance four sixteen =
     eqb last 40 || eqb last 49 || eqb last 50 || (eqb last 31 && not (remittance && (four || sixteen)))

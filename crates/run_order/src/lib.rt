@@ -3,6 +3,7 @@
 ghost use mathlib.Core.Path.{_≡_};
 ghost use lib.Dec.{eqb};
 ghost use lib.ListN.{length};
+ghost use Rattle.limits.specs.Limits.{recordBytes};
 ghost use Rattle.rules.specs.Codes.{kindOf, kindFor, numberOfKind};
 ghost use Rattle.rules.specs.Order.{mayFollow, mayEnd};
 ghost use Rattle.run_order.specs.Whole.{wholeBehind, isRemittance, isDraft};
@@ -13,7 +14,7 @@ use services::Service;
 
 // The record type in field 4. Nine records of ten are a 31 or a 30, and are told by their two bytes.
 pub fn kind_of(r: &[u8]) -> Kind
-    requires { ⌜ length (now r) ≡ 81 ⌝ }
+    requires { ⌜ length (now r) ≡ recordBytes ⌝ }
     ensures { λ x. ⌜ x ≡ kindOf (now (r .entry)) ⌝ }
 {
     if fields::same_at(r, 7, 8, b"31") {
@@ -78,7 +79,7 @@ fn is_draft(mode: Mode) -> bool
     }
 }
 
-// A whole transaction lies behind: the next one, or the end of the assignment, may come.
+// A whole transaction has come: the next one, or the end of the assignment, may follow.
 fn whole_behind(before: Kind, service: Service, code: u8) -> bool
     ensures { λ x. ⌜ x ≡ wholeBehind (numberOfKind before) (isRemittance service) (eqb code 4) (eqb code 16) ⌝ }
 {
@@ -90,7 +91,7 @@ fn whole_behind(before: Kind, service: Service, code: u8) -> bool
         | ((last == 31) & !(remittance & ((code == 4) | (code == 16))))
 }
 
-// A record of this type may stand behind the assignment's last one.
+// A record of this type may stand after the assignment's last one.
 pub fn may_follow(mode: Mode, a: Assignment, kind: Kind) -> bool
     ensures { λ x. ⌜ x ≡ mayFollow mode a kind ⌝ }
 {
@@ -118,7 +119,7 @@ pub fn may_follow(mode: Mode, a: Assignment, kind: Kind) -> bool
     }
 }
 
-// The input may end behind the assignment's last record.
+// The input may end after the assignment's last record.
 pub fn may_end(mode: Mode, a: Assignment) -> bool
     ensures { λ x. ⌜ x ≡ mayEnd mode a ⌝ }
 {

@@ -7,6 +7,7 @@ use mathlib.Core.Bool.{Bool, true, false}
 use native.Mathlib.Omega.{arith}
 use borrow.Author.Tests.{leb-true}
 use lib.Dec.{leb, eqb}
+use Rattle.limits.specs.Limits.{mostRecords}
 use Rattle.choice.specs.Choice.{if_then_else_}
 use Rattle.services.specs.declared.Service.{Service}
 use Rattle.services.specs.declared.Service.the-variants.{Autogiro, Remittance}
@@ -106,7 +107,7 @@ small-next k Other w st ks r s h =
     record { file = more-record k (st .file) (s .file); assignment = record { assignments = omega arith; transactions = omega arith; records = omega arith; sum = omega arith }; specified = s .specified; credited = s .credited }
 
 -- the file has room for a transaction whose amount its sum takes
-pub room-for : (st : State) (x : Amount) (d : Date) → Small 200000 st → {y : Amount} → x ≡ y → Paying (st .file) (st .assignment) y → Room (st .file) (oneTransaction x d)
+pub room-for : (st : State) (x : Amount) (d : Date) → Small mostRecords st → {y : Amount} → x ≡ y → Paying (st .file) (st .assignment) y → Room (st .file) (oneTransaction x d)
 room-for st x d s {y} e p =
     let q : x .0 ≡ y .0 = ap (λ (z : Amount). z .0) e in
     record { assignments = omega (arith, s .file .assignments); transactions = omega (arith, s .file .transactions); records = omega (arith, s .file .records); sum = omega (arith, q, p .file) }

@@ -1,4 +1,4 @@
--- What a step says of the record's rows, and what the run does behind it.
+-- What a step says of the record's rows, what the run does behind it, and what a record leaves in keys and figures.
 -- Assumes nothing.
 use Prim.Native.Nat.{ℕ, _+_, _<_}
 use mathlib.Core.Path.{_≡_, refl, sym, ap, subst, _∙_}
@@ -6,9 +6,12 @@ use mathlib.Core.List.{List, [], _∷_, _++_}
 use mathlib.Core.Bool.{Bool, true, false, _&&_}
 use native.Mathlib.Omega.{arith}
 use borrow.Author.Tests.{ltb-true, ne-eqb}
+use lib.Dec.{eqb}
 use lib.ListN.{length, getD, take}
 use lib.Seq.{drop-cons}
-use Rattle.fields.specs.Bytes.{every, same, isDigit, part}
+use Rattle.choice.specs.Choice.{if_then_else_}
+use Rattle.limits.specs.Limits.{mostAssignments}
+use Rattle.fields.specs.Bytes.{same, part}
 use Rattle.dates.specs.declared.Window.{Window}
 use Rattle.figures.specs.declared.totals.Totals.{Totals}
 use Rattle.layout.specs.Rows.{Row, at, must, passes, firstFault, AllHold}
@@ -16,20 +19,23 @@ use Rattle.layout.specs.declared.Finding.{Finding}
 use Rattle.layout.specs.declared.Finding.the-variants.{Sound, Fault}
 use Rattle.layout.proofs.Laws.{next, stop, all-of-sound}
 use Rattle.run_order.proofs.Follow.{choice-is}
-use Rattle.rules.specs.Codes.{kindOf}
+use Rattle.rules.specs.Codes.{kindOf, numberOfKind, keyIn}
 use Rattle.rules.specs.Order.{mayFollow}
 use Rattle.rules.specs.Layouts.{lineFeed, tableFor, rows, record20}
-use Rattle.rules.specs.Growth.{after, afterFor, keys}
+use Rattle.rules.specs.Growth.{after, afterFor, keys, keysFor}
 use Rattle.rules.specs.Refusals.{refused}
 use Rattle.rules.specs.Run.{stepped, kindStep, stepOf, onStep, run}
 use Rattle.rules.specs.declared.Assignment.{Assignment}
 use Rattle.rules.specs.declared.Kind.{Kind}
-use Rattle.rules.specs.declared.Kind.the-variants.{R20, Other}
+use Rattle.rules.specs.declared.Kind.the-variants.{Other}
 use Rattle.rules.specs.declared.Mode.{Mode}
 use Rattle.rules.specs.declared.State.{State}
 use Rattle.rules.specs.declared.Step.{Step}
 use Rattle.rules.specs.declared.Step.the-variants.{Next, Stop}
 use Rattle.rules.specs.declared.Verdict.{Verdict}
+use Rattle.run_figures.specs.Slots.{putFrom, withFigures}
+use Rattle.run_figures.proofs.Slots.{put-none}
+use Rattle.run_step.specs.Took.{keysOf, endedBy, onNext, Took}
 
 stop-not-next : (n k : ℕ) (s : State) → Stop n k ≡ Next s → ⊥
 stop-not-next n k s e = let z : _≡_ {A = ℕ} 0 1 = cc in omega arith
@@ -130,12 +136,37 @@ feed-no r h e = ap (λ (s : List ℕ). same s (10 ∷ [])) (last-byte r h) ∙ a
 pub never-other : (m : Mode) (a : Assignment) → mayFollow m a Other ≡ false
 never-other m a = sym (choice-is m a Other)
 
--- what a sound record 20 has: room for it, and two numbers
-pub record Opens (f : Totals) (r : List ℕ) : Type 0 where
-  pub room : f .assignments .0 < 500
-  pub agreement : every isDigit (part 9 17 r) ≡ true
-  pub number : every isDigit (part 18 24 r) ≡ true
-
-pub opens : (f : Totals) (ks : List ℕ) (a : Assignment) (r : List ℕ) → AllHold f ks r (record20 a r) → Opens f r
+-- before a sound record 20 there was room for its key
+pub slot-held : (f : Totals) (ks r : List ℕ) (a : Assignment) → AllHold f ks r (record20 a r) → f .assignments .0 < mostAssignments
 unfolding AllHold
-opens f ks a r h = record { room = ltb-true (f .assignments .0) 500 (h .0); agreement = h .1 .1 .1 .1 .1 .0; number = h .1 .1 .1 .1 .1 .1 .0 }
+slot-held f ks r a h = ltb-true (f .assignments .0) mostAssignments (h .0)
+
+pub slot-for : (f : Totals) (ks r : List ℕ) (a : Assignment) → firstFault f ks r (record20 a r) ≡ Sound → f .assignments .0 < mostAssignments
+slot-for f ks r a e = slot-held f ks r a (all-of-sound f ks r (record20 a r) e)
+
+-- a record taken: one that stops, and one that is no 20, leave keys and figures as they were
+module _ (expected : Step) (kind : Kind) (st : State) (r keys figures : List ℕ) where
+  pub took-stop : (n k : ℕ) → Stop n k ≡ expected → Took expected kind st r keys figures (Stop n k) keys figures
+  unfolding onNext
+  took-stop n k e = record { step = e; keyed = refl; figured = refl }
+
+  same-keys : (x : Step) → eqb (numberOfKind kind) 20 ≡ false → keys ≡ onNext x (putFrom (st .file .assignments .0) (keysFor kind r) keys) keys
+  unfolding onNext
+  same-keys (Next s) n = sym (ap (λ (b : Bool). putFrom (st .file .assignments .0) (if b then keyIn r ∷ [] else []) keys) n ∙ put-none (st .file .assignments .0) keys)
+  same-keys (Stop x y) n = refl
+
+  same-figures : (x : Step) → eqb (numberOfKind kind) 20 ≡ false → figures ≡ onNext x (endedBy kind (st .file .assignments .0) (st .assignment .totals) figures) figures
+  unfolding onNext endedBy
+  same-figures (Next s) n = sym (ap (λ (b : Bool). if b then withFigures (st .file .assignments .0) (st .assignment .totals) figures else figures) n)
+  same-figures (Stop x y) n = refl
+
+  pub took-on : (x : Step) → eqb (numberOfKind kind) 20 ≡ false → x ≡ expected → Took expected kind st r keys figures x keys figures
+  took-on x n e = record { step = e; keyed = same-keys x n; figured = same-figures x n }
+
+-- a record taken as one of its type is taken as it stands there
+pub took-here : (k k′ : Kind) (w : Window) (st : State) (r keys figures : List ℕ) (x : Step) (keys′ figures′ : List ℕ) (expected : Step)
+    → Took (kindStep k w st (keysOf st keys) r) k st r keys figures x keys′ figures′ → k ≡ k′ → expected ≡ kindStep k′ w st (keysOf st keys) r
+    → Took expected k′ st r keys figures x keys′ figures′
+took-here k k′ w st r keys figures x keys′ figures′ expected h e q =
+    let t = subst (λ (j : Kind). Took (kindStep j w st (keysOf st keys) r) j st r keys figures x keys′ figures′) e h in
+    record { step = t .step ∙ sym q; keyed = t .keyed; figured = t .figured }

@@ -1,4 +1,4 @@
--- The state behind a record that is sound and brings no transaction.
+-- The state after a record that is sound and brings no transaction.
 -- Assumes nothing.
 use Prim.Native.Nat.{ℕ}
 use Rattle.figures.specs.Totals.{_⊕_, oneRecord}

@@ -1,14 +1,15 @@
-// One record behind the state: what its check found, and the state behind it.
+// One record after the state: what its check found, the state after it, and what it adds to the keys and the figures.
 
 ghost use mathlib.Core.Path.{_≡_};
 ghost use mathlib.Core.List.{List};
-ghost use Prim.Native.Nat.{ℕ, _≤_};
-ghost use lib.ListN.{length, take};
+ghost use Prim.Native.Nat.{ℕ};
+ghost use lib.ListN.{length};
+ghost use Rattle.limits.specs.Limits.{recordBytes, mostRecords};
 ghost use Rattle.run_growth.specs.Bounds.{Small};
-ghost use Rattle.services.specs.Services.{serviceFor};
-ghost use Rattle.rules.specs.Codes.{serviceCode};
+ghost use Rattle.rules.specs.Codes.{kindOf};
 ghost use Rattle.rules.specs.Run.{stepped, kindStep, stepOf};
 ghost use Rattle.run_step.specs.Passed.{passedOn};
+ghost use Rattle.run_step.specs.Took.{keysOf, Ready, Took};
 use dates::Window;
 use figures::groups::Group;
 use layout::Finding;
@@ -16,11 +17,10 @@ use rules::Kind;
 use rules::Mode;
 use rules::State;
 use rules::Step;
-use services::Service;
 
-// On behind a record that brings no transaction, or stop at what was found.
-fn pass_on(st: State, finding: Finding, kind: Kind, group: Group, places: u64) -> Step
-    requires { ⌜ Small 200000 st ⌝ }
+// On after a record that brings no transaction, with the group and the places as they then are, or stop at what was found.
+fn pass_with(st: State, finding: Finding, kind: Kind, group: Group, places: u64) -> Step
+    requires { ⌜ Small mostRecords st ⌝ }
     ensures { λ x. ⌜ x ≡ stepped finding (passedOn kind group places st) ⌝ }
 {
     match finding {
@@ -36,8 +36,18 @@ fn pass_on(st: State, finding: Finding, kind: Kind, group: Group, places: u64) -
     }
 }
 
+// The same after a record that leaves the group and the places as they were.
+fn pass_on(st: State, finding: Finding, kind: Kind) -> Step
+    requires { ⌜ Small mostRecords st ⌝ }
+    ensures { λ x. ⌜ x ≡ stepped finding (passedOn kind (st .assignment .group) (st .assignment .places) st) ⌝ }
+{
+    let a = st.assignment;
+    let group = a.group;
+    pass_with(st, finding, kind, group, a.places)
+}
+
 fn step10(st: State, r: &[u8]) -> Step
-    requires { ⌜ (length (now r) ≡ 81) × Small 200000 st ⌝ }
+    requires { ⌜ (length (now r) ≡ recordBytes) × Small mostRecords st ⌝ }
     ensures { λ x. ⌜ ((w : Window) (ks : List ℕ) → x ≡ kindStep Kind.R10 w st ks (now (r .entry))) ⌝ }
 {
     let finding = record_10_20::check10(r);
@@ -53,35 +63,33 @@ fn step10(st: State, r: &[u8]) -> Step
     }
 }
 
-// The service that a sound record 20 names.
-fn service_of(r: &[u8]) -> Service
-    requires { ⌜ length (now r) ≡ 81 ⌝ }
-    ensures { λ x. ⌜ x ≡ serviceFor (serviceCode (now (r .entry))) ⌝ }
-{
-    if fields::code_at(r, 3) == 1 {
-        return Service::Autogiro;
-    }
-    Service::Remittance
-}
-
-fn step20(st: State, r: &[u8], keys: &[u64], used: usize) -> Step
-    requires { ⌜ (length (now r) ≡ 81) × Small 200000 st × (used ≤ length (now keys)) ⌝ }
-    ensures { λ x. ⌜ ((w : Window) → x ≡ kindStep Kind.R20 w st (take used (now (keys .entry))) (now (r .entry))) ⌝ }
+// A sound record 20 puts its key after those before, and the figures of what it ends after theirs.
+fn step20(st: State, r: &[u8], keys: &mut [u64], figures: &mut [u64]) -> Step
+    requires { ⌜ Ready st (now r) (now keys) ⌝ }
+    ensures { λ x. ⌜ ((w : Window) → Took (kindStep Kind.R20 w st (keysOf st (now (keys .entry))) (now (r .entry))) Kind.R20 st (now (r .entry)) (now (keys .entry)) (now (figures .entry)) x (now (keys .exit)) (now (figures .exit))) ⌝ }
 {
     let file = st.file;
     let a = st.assignment;
-    let finding = record_10_20::check20(r, a, file, keys, used);
+    let keyed = record_10_20::check20(r, a, file, keys);
+    let finding = keyed.finding;
     match finding {
         Finding::Fault(number, field) => Step::Stop(number, field),
-        Finding::Sound => Step::Next(State {
-            file: file.with_assignment(),
-            assignment: run_growth::open_for(service_of(r)),
-        }),
+        Finding::Sound => {
+            let assignments = file.assignments;
+            let before = assignments.0 as usize;
+            keys[before] = keyed.key;
+            let totals = a.totals;
+            run_figures::keep_figures(totals, figures, before);
+            Step::Next(State {
+                file: file.with_assignment(),
+                assignment: run_growth::open_for(services::service_for(fields::code_at(r, 3))),
+            })
+        }
     }
 }
 
 fn step30(st: State, r: &[u8], w: Window) -> Step
-    requires { ⌜ (length (now r) ≡ 81) × Small 200000 st ⌝ }
+    requires { ⌜ (length (now r) ≡ recordBytes) × Small mostRecords st ⌝ }
     ensures { λ x. ⌜ ((ks : List ℕ) → x ≡ kindStep Kind.R30 w st ks (now (r .entry))) ⌝ }
 {
     let file = st.file;
@@ -104,38 +112,34 @@ fn step30(st: State, r: &[u8], w: Window) -> Step
 }
 
 fn step31(st: State, r: &[u8]) -> Step
-    requires { ⌜ (length (now r) ≡ 81) × Small 200000 st ⌝ }
+    requires { ⌜ (length (now r) ≡ recordBytes) × Small mostRecords st ⌝ }
     ensures { λ x. ⌜ ((w : Window) (ks : List ℕ) → x ≡ kindStep Kind.R31 w st ks (now (r .entry))) ⌝ }
 {
     let a = st.assignment;
-    let group = a.group;
-    let places = a.places;
-    pass_on(st, record_31_40::check31(r, a), Kind::R31, group, places)
+    pass_on(st, record_31_40::check31(r, a), Kind::R31)
 }
 
 fn step40(st: State, r: &[u8]) -> Step
-    requires { ⌜ (length (now r) ≡ 81) × Small 200000 st ⌝ }
+    requires { ⌜ (length (now r) ≡ recordBytes) × Small mostRecords st ⌝ }
     ensures { λ x. ⌜ ((w : Window) (ks : List ℕ) → x ≡ kindStep Kind.R40 w st ks (now (r .entry))) ⌝ }
 {
     let a = st.assignment;
-    let group = a.group;
-    let places = a.places;
-    pass_on(st, record_31_40::check40(r, a), Kind::R40, group, places)
+    pass_on(st, record_31_40::check40(r, a), Kind::R40)
 }
 
 fn step49(st: State, r: &[u8]) -> Step
-    requires { ⌜ (length (now r) ≡ 81) × Small 200000 st ⌝ }
+    requires { ⌜ (length (now r) ≡ recordBytes) × Small mostRecords st ⌝ }
     ensures { λ x. ⌜ ((w : Window) (ks : List ℕ) → x ≡ kindStep Kind.R49 w st ks (now (r .entry))) ⌝ }
 {
     let a = st.assignment;
     let group = a.group;
     let placed = record_49::check49(r, a);
     let finding = placed.finding;
-    pass_on(st, finding, Kind::R49, group, placed.places)
+    pass_with(st, finding, Kind::R49, group, placed.places)
 }
 
 fn step50(st: State, r: &[u8]) -> Step
-    requires { ⌜ (length (now r) ≡ 81) × Small 200000 st ⌝ }
+    requires { ⌜ (length (now r) ≡ recordBytes) × Small mostRecords st ⌝ }
     ensures { λ x. ⌜ ((w : Window) (ks : List ℕ) → x ≡ kindStep Kind.R50 w st ks (now (r .entry))) ⌝ }
 {
     let a = st.assignment;
@@ -148,7 +152,7 @@ fn step50(st: State, r: &[u8]) -> Step
         Finding::Sound => {
             let amount = specified.amount;
             let code = fields::code_at(r, 5);
-            pass_on(
+            pass_with(
                 st,
                 finding,
                 Kind::R50,
@@ -160,30 +164,32 @@ fn step50(st: State, r: &[u8]) -> Step
 }
 
 fn step88(st: State, r: &[u8]) -> Step
-    requires { ⌜ (length (now r) ≡ 81) × Small 200000 st ⌝ }
+    requires { ⌜ (length (now r) ≡ recordBytes) × Small mostRecords st ⌝ }
     ensures { λ x. ⌜ ((w : Window) (ks : List ℕ) → x ≡ kindStep Kind.R88 w st ks (now (r .entry))) ⌝ }
 {
     let a = st.assignment;
-    let group = a.group;
-    let places = a.places;
-    pass_on(st, record_88_89::check88(r, a), Kind::R88, group, places)
+    pass_on(st, record_88_89::check88(r, a), Kind::R88)
 }
 
 fn step89(st: State, r: &[u8]) -> Step
-    requires { ⌜ (length (now r) ≡ 81) × Small 200000 st ⌝ }
+    requires { ⌜ (length (now r) ≡ recordBytes) × Small mostRecords st ⌝ }
     ensures { λ x. ⌜ ((w : Window) (ks : List ℕ) → x ≡ kindStep Kind.R89 w st ks (now (r .entry))) ⌝ }
 {
     let file = st.file;
-    let a = st.assignment;
-    let group = a.group;
-    let places = a.places;
-    pass_on(st, record_88_89::check89(r, file), Kind::R89, group, places)
+    pass_on(st, record_88_89::check89(r, file), Kind::R89)
 }
 
 // A record whose type may stand here.
-fn step_for(kind: Kind, w: Window, st: State, r: &[u8], keys: &[u64], used: usize) -> Step
-    requires { ⌜ (length (now r) ≡ 81) × Small 200000 st × (used ≤ length (now keys)) × (kind ≡ Kind.Other → ⊥) ⌝ }
-    ensures { λ x. ⌜ x ≡ kindStep kind w st (take used (now (keys .entry))) (now (r .entry)) ⌝ }
+fn step_for(
+    kind: Kind,
+    w: Window,
+    st: State,
+    r: &[u8],
+    keys: &mut [u64],
+    figures: &mut [u64],
+) -> Step
+    requires { ⌜ Ready st (now r) (now keys) × (kind ≡ Kind.Other → ⊥) ⌝ }
+    ensures { λ x. ⌜ Took (kindStep kind w st (keysOf st (now (keys .entry))) (now (r .entry))) kind st (now (r .entry)) (now (keys .entry)) (now (figures .entry)) x (now (keys .exit)) (now (figures .exit)) ⌝ }
 {
     match kind {
         Kind::R30 => step30(st, r, w),
@@ -192,17 +198,24 @@ fn step_for(kind: Kind, w: Window, st: State, r: &[u8], keys: &[u64], used: usiz
         Kind::R49 => step49(st, r),
         Kind::R50 => step50(st, r),
         Kind::R88 => step88(st, r),
-        Kind::R20 => step20(st, r, keys, used),
+        Kind::R20 => step20(st, r, keys, figures),
         Kind::R10 => step10(st, r),
         Kind::R89 => step89(st, r),
         Kind::Other => Step::Stop(5, 4),
     }
 }
 
-// One record behind the state; the first `used` keys are those of the assignments before.
-pub fn take_record(mode: Mode, w: Window, st: State, r: &[u8], keys: &[u64], used: usize) -> Step
-    requires { ⌜ (length (now r) ≡ 81) × Small 200000 st × (used ≤ length (now keys)) ⌝ }
-    ensures { λ x. ⌜ x ≡ stepOf mode w st (take used (now (keys .entry))) (now (r .entry)) ⌝ }
+// One record after the state. The first keys are those of the assignments before, and the first figures those of the assignments that have ended.
+pub fn take_record(
+    mode: Mode,
+    w: Window,
+    st: State,
+    r: &[u8],
+    keys: &mut [u64],
+    figures: &mut [u64],
+) -> Step
+    requires { ⌜ Ready st (now r) (now keys) ⌝ }
+    ensures { λ x. ⌜ Took (stepOf mode w st (keysOf st (now (keys .entry))) (now (r .entry))) (kindOf (now (r .entry))) st (now (r .entry)) (now (keys .entry)) (now (figures .entry)) x (now (keys .exit)) (now (figures .exit)) ⌝ }
 {
     if r[80] != 10 {
         return Step::Stop(4, 0);
@@ -212,5 +225,5 @@ pub fn take_record(mode: Mode, w: Window, st: State, r: &[u8], keys: &[u64], use
     if !run_order::may_follow(mode, a, kind) {
         return Step::Stop(5, 4);
     }
-    step_for(kind, w, st, r, keys, used)
+    step_for(kind, w, st, r, keys, figures)
 }

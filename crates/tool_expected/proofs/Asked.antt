@@ -5,11 +5,12 @@ use mathlib.Core.Path.{_≡_, refl}
 use mathlib.Core.List.{List, [], _∷_, _++_}
 use Rattle.figures.specs.declared.totals.Totals.{Totals}
 use Rattle.layout.specs.Rows.{at, figureOf, transactions, records, sum, firstDate}
-use Rattle.layout.specs.Rules.{zeros, fixed}
-use Rattle.rules.specs.Layouts.{groupGives, belongs, own, record88}
+use Rattle.layout.specs.Rules.{zeros}
+use Rattle.rules.specs.Fields.{transactionsField, recordsField, sumField, firstDateField, lastDateField}
+use Rattle.rules.specs.Layouts.{head88, own, record88}
 use Rattle.rules.specs.declared.Assignment.{Assignment}
 use Rattle.rules.specs.declared.Kind.the-variants.{R88, R89}
-use Rattle.tool_walk.specs.Behind.{told}
+use Rattle.tool_walk.specs.Seen.{told}
 use Rattle.tool_fixed.specs.declared.Remedy.{Remedy}
 use Rattle.tool_fixed.specs.declared.Remedy.the-variants.{Unknown, Value, Start, Zeros, OneOf, AboveZero, NoneLeft, Digit, NoDigit}
 use Rattle.tool_expected.specs.Expected.{figureIn, figureFor}
@@ -29,12 +30,12 @@ shown NoDigit = 0
 -- an 88 is held to the figures that are shown for it
 pub asks-88 : (f : Totals) (a : Assignment) (r : List ℕ)
     → record88 a r
-    ≡ (groupGives a ∷ belongs a r) ++ (at 3 5 6 (fixed "00") ∷ []) ++
-    own 5 9 16 r (shown (figureFor R88 5 (told f a))) ++
-    own 6 17 24 r (shown (figureFor R88 6 (told f a))) ++
-    own 7 25 41 r (shown (figureFor R88 7 (told f a))) ++
-    own 8 42 47 r (shown (figureFor R88 8 (told f a))) ++
-    own 9 48 53 r (shown (figureFor R88 9 (told f a))) ++
+    ≡ head88 a r ++
+    own transactionsField r (shown (figureFor R88 5 (told f a))) ++
+    own recordsField r (shown (figureFor R88 6 (told f a))) ++
+    own sumField r (shown (figureFor R88 7 (told f a))) ++
+    own firstDateField r (shown (figureFor R88 8 (told f a))) ++
+    own lastDateField r (shown (figureFor R88 9 (told f a))) ++
     (at 10 54 80 zeros ∷ [])
 unfolding figureFor figureIn
 asks-88 f a r = refl

@@ -1,47 +1,37 @@
 // What a field must have by the records before it: what it repeats, the next number, the figures of an end record.
 
 ghost use mathlib.Core.Path.{_≡_};
-ghost use Rattle.services.specs.Services.{codeFor};
 ghost use Rattle.tool_expected.specs.Expected.{nextNumber, repeatedFor, figureIn, figureFor};
 use figures::totals::Totals;
 use rules::Kind;
-use services::Service;
 use tool_fixed::Remedy;
-use tool_walk::Behind;
+use tool_walk::LAST_NUMBER;
+use tool_walk::Seen;
 
-fn code_for(service: Service) -> u64
-    ensures { λ x. ⌜ x ≡ codeFor service ⌝ }
-{
-    match service {
-        Service::Autogiro => 1,
-        Service::Remittance => 4,
-    }
-}
-
-// The number of a record 30 behind this one.
+// The number of the record 30 after this one.
 fn next_number(number: u64) -> Remedy
     ensures { λ x. ⌜ x ≡ nextNumber number ⌝ }
 {
     if number == 0 {
         return Remedy::AboveZero;
     }
-    if 9999999 <= number {
+    if LAST_NUMBER <= number {
         return Remedy::NoneLeft;
     }
     Remedy::Value(number + 1, 7)
 }
 
 // What a field must repeat that is refused with 12: the service, the type, the transaction number or the next one.
-pub fn repeated(kind: Kind, field: u8, b: Behind) -> Remedy
-    ensures { λ x. ⌜ x ≡ repeatedFor kind field b ⌝ }
+pub fn repeated(kind: Kind, field: u8, seen: Seen) -> Remedy
+    ensures { λ x. ⌜ x ≡ repeatedFor kind field seen ⌝ }
 {
-    let service = b.service;
-    let number = b.number;
+    let service = seen.service;
+    let number = seen.number;
     if field == 2 {
-        return Remedy::Value(code_for(service), 2);
+        return Remedy::Value(services::code_for(service) as u64, 2);
     }
     if field == 3 {
-        return Remedy::Value(b.code as u64, 2);
+        return Remedy::Value(seen.code as u64, 2);
     }
     if run_order::number_of(kind) == 30 {
         return next_number(number.0 as u64);
@@ -50,14 +40,14 @@ pub fn repeated(kind: Kind, field: u8, b: Behind) -> Remedy
 }
 
 // A figure of an end record, which counts itself.
-fn figure(field: u8, t: Totals, b: Behind) -> Remedy
-    ensures { λ x. ⌜ x ≡ figureIn field t b ⌝ }
+fn figure(field: u8, t: Totals, seen: Seen) -> Remedy
+    ensures { λ x. ⌜ x ≡ figureIn field t seen ⌝ }
 {
     let transactions = t.transactions;
     let records = t.records;
     let sum = t.sum;
     let first = t.first;
-    let totals = b.totals;
+    let totals = seen.totals;
     match field {
         5 => Remedy::Value(transactions.0 as u64, 8),
         6 => Remedy::Value(records.0 as u64 + 1, 8),
@@ -68,13 +58,13 @@ fn figure(field: u8, t: Totals, b: Behind) -> Remedy
 }
 
 // An 89 has the file's figures, an 88 its assignment's.
-pub fn figure_of(kind: Kind, field: u8, b: Behind) -> Remedy
-    ensures { λ x. ⌜ x ≡ figureFor kind field b ⌝ }
+pub fn figure_of(kind: Kind, field: u8, seen: Seen) -> Remedy
+    ensures { λ x. ⌜ x ≡ figureFor kind field seen ⌝ }
 {
-    let file = b.file;
-    let totals = b.totals;
+    let file = seen.file;
+    let totals = seen.totals;
     if run_order::number_of(kind) == 89 {
-        return figure(field, file, b);
+        return figure(field, file, seen);
     }
-    figure(field, totals.totals, b)
+    figure(field, totals.totals, seen)
 }

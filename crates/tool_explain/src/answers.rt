@@ -1,4 +1,4 @@
-// An answer as the tool tells it: the machine's line, and behind a refusal what it means.
+// An answer as the tool tells it: the machine's line, and after a refusal what it means.
 
 use figures::totals::Totals;
 use rules::Mode;

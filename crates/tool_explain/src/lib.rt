@@ -1,14 +1,18 @@
-// What people read behind a refusal: the number in words, where it stands, and the record with its field underlined.
+// What people read after a refusal: the number in words, where it stands, and the record with its field underlined.
 
 pub mod answers;
-mod right;
+mod remedies;
 
+use limits::RECORD_BYTES;
 use rules::Kind;
 use rules::Mode;
 use rules::Refusal;
 use tool_phrases::say;
 use tool_phrases::say_number;
-use tool_positions::Place;
+use tool_positions::Positions;
+
+// Where a record's line feed stands, after its letters.
+const LINE_FEED: usize = RECORD_BYTES - 1;
 
 // A byte of ISO 8859-1 as UTF-8; a point for what cannot be printed.
 fn say_letter(b: u8) {
@@ -35,8 +39,8 @@ fn say_letters(r: &[u8]) {
     }
 }
 
-// A mark below a position of the underlined place, a blank before it.
-fn say_mark(position: usize, from: usize) {
+// A mark below a position from here on, a blank before it.
+fn say_mark(position: u64, from: u64) {
     if position < from {
         say(b" ");
         return;
@@ -44,10 +48,10 @@ fn say_mark(position: usize, from: usize) {
     say(b"^");
 }
 
-fn underline(place: Place) {
-    let from = place.from;
-    let to = place.to;
-    let mut i: usize = 0;
+fn underline(positions: Positions) {
+    let from = positions.from;
+    let to = positions.to;
+    let mut i: u64 = 0;
     while i < to {
         i += 1;
         say_mark(i, from);
@@ -55,24 +59,27 @@ fn underline(place: Place) {
     program_lines::end_line();
 }
 
-// The place that a refusal of a record marks: the field, or position 81 where the line feed is missing.
-fn place_marked(kind: Kind, number: u8, field: u8) -> Place {
+// The positions that a refusal of a record marks: those of the field, or the last where the line feed is missing.
+fn positions_marked(kind: Kind, number: u8, field: u8) -> Positions {
     if number == 4 {
-        return Place { from: 81, to: 81 };
+        return Positions {
+            from: RECORD_BYTES as u64,
+            to: RECORD_BYTES as u64,
+        };
     }
-    tool_positions::place_of(kind, field as usize)
+    tool_positions::positions_of(kind, field as usize)
 }
 
-fn say_positions(place: Place) {
-    if place.from == place.to {
+fn say_positions(positions: Positions) {
+    if positions.from == positions.to {
         say(b", position ");
-        say_number(place.to as u64);
+        say_number(positions.to);
         return;
     }
     say(b", positions ");
-    say_number(place.from as u64);
+    say_number(positions.from);
     say(b" to ");
-    say_number(place.to as u64);
+    say_number(positions.to);
 }
 
 // Which of two files.
@@ -94,37 +101,37 @@ fn say_where(x: Refusal) {
     say_number(x.record);
 }
 
-// The 80 letters of a record, and the one behind them where that has to be a line feed and is not.
+// The letters of a record, and the one after them where that has to be a line feed and is not.
 fn say_record(r: &[u8], number: u8) {
-    if r.len() != 81 {
+    if r.len() != RECORD_BYTES {
         return;
     }
-    say_letters(&r[0..80]);
+    say_letters(&r[0..LINE_FEED]);
     if number == 4 {
-        say_letter(r[80]);
+        say_letter(r[LINE_FEED]);
     }
     program_lines::end_line();
 }
 
 // The record that was refused, with its field by name, position and underlined.
 fn show(x: Refusal, r: &[u8]) {
-    if r.len() != 81 {
+    if r.len() != RECORD_BYTES {
         return;
     }
     let kind = run_order::kind_of(r);
-    let place = place_marked(kind, x.number, x.field);
+    let positions = positions_marked(kind, x.number, x.field);
     if 0 < x.field {
         say(b", field ");
         say_number(x.field as u64);
         say(b" (");
         tool_phrases::say_field(kind, x.field);
-        say_positions(place);
+        say_positions(positions);
         say(b")");
     }
     program_lines::end_line();
     say_record(r, x.number);
-    if 0 < place.to {
-        underline(place);
+    if 0 < positions.to {
+        underline(positions);
     }
 }
 
@@ -135,15 +142,15 @@ fn show_record(x: Refusal, mode: Mode, file: &[u8]) {
         program_lines::end_line();
         return;
     }
-    if file.len() / 81 < record {
+    if file.len() / RECORD_BYTES < record {
         program_lines::end_line();
-        right::say_missing(x.number, mode, file);
+        remedies::say_missing(x.number, mode, file);
         return;
     }
-    let end = 81 * record;
-    let at = end - 81;
-    show(x, &file[at..end]);
-    right::say_right(x, mode, &file[0..at], &file[at..end]);
+    let before = record - 1;
+    let r = rules::record_at(file, before);
+    show(x, r);
+    remedies::say_right(x, mode, &file[0..RECORD_BYTES * before], r);
 }
 
 // The right form of a day and a date.
@@ -158,7 +165,7 @@ fn say_form(number: u8) {
     }
 }
 
-// What people read behind the machine's line; `file` is the one that the refusal speaks of.
+// What people read after the machine's line; `file` is the one that the refusal speaks of.
 pub fn explain(x: Refusal, mode: Mode, file: &[u8]) {
     tool_phrases::say_meaning(x.number);
     say_where(x);

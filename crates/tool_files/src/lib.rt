@@ -38,7 +38,7 @@ pub fn open_input(name: &[u8]) -> i32 {
     fd
 }
 
-// Behind a full buffer or the end of an input nothing more may come; trouble is told.
+// After a full buffer or the end of an input nothing more may come; trouble is told.
 pub fn ended(fd: i32, name: &[u8]) -> bool {
     let mut more = [0u8; 1];
     let left = libc::read(fd, &mut more);

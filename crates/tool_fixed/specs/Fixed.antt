@@ -1,7 +1,9 @@
 -- Document 01: the fixed values, codes, lines and columns of each record type, for a field refused with 7.
 -- Assumes nothing.
-use Prim.Native.Nat.{ℕ}
-use lib.Dec.{eqb}
+use Prim.Native.Nat.{ℕ, _-_}
+use mathlib.Core.List.{List, [], _∷_}
+use lib.Dec.{eqb, ltb}
+use lib.ListN.{getD}
 use Rattle.choice.specs.Choice.{if_then_else_}
 use Rattle.rules.specs.declared.Kind.{Kind}
 use Rattle.rules.specs.declared.Kind.the-variants.{R10, R20, R30, R31, R40, R49, R50, R88, R89, Other}
@@ -9,21 +11,25 @@ use Rattle.tool_fixed.specs.declared.Choice.the-variants.{Services, Clai
 use Rattle.tool_fixed.specs.declared.Remedy.{Remedy}
 use Rattle.tool_fixed.specs.declared.Remedy.the-variants.{Unknown, Value, Start, Zeros, OneOf}
 
-abbrev pub noServiceOrType : ℕ → Remedy → Remedy
-noServiceOrType field x = if eqb field 2 then Value 0 2 else (if eqb field 3 then Value 0 2 else x)
+-- each service has its own types of record 30
+abbrev pub typesOf : ℕ → Remedy
+typesOf s = if eqb s 1 then OneOf ClaimTypes else OneOf RemittanceTypes
 
--- behind field 1; `s` is the record's own service
-abbrev pub fixedBehind1 : Kind → ℕ → ℕ → Remedy
-fixedBehind1 R10 field s = noServiceOrType field (if eqb field 7 then Value 8080 8 else Zeros)
-fixedBehind1 R20 field s = if eqb field 2 then OneOf Services else (if eqb field 3 then Value 0 2 else Zeros)
-fixedBehind1 R30 field s = if eqb field 3 then (if eqb s 1 then OneOf ClaimTypes else OneOf RemittanceTypes) else Zeros
-fixedBehind1 R31 field s = Zeros
-fixedBehind1 R40 field s = Zeros
-fixedBehind1 R49 field s = if eqb field 6 then Value 3 1 else (if eqb field 7 then OneOf Lines else (if eqb field 8 then OneOf Columns else Zeros))
-fixedBehind1 R50 field s = if eqb field 3 then OneOf SpecificationTypes else Zeros
-fixedBehind1 R88 field s = noServiceOrType field Zeros
-fixedBehind1 R89 field s = noServiceOrType field Zeros
-fixedBehind1 Other field s = Unknown
+-- fields 2 to 8; `types` are those of a record 30
+abbrev pub fixedFields : Kind → Remedy → List Remedy
+fixedFields R10 types = Value 0 2 ∷ Value 0 2 ∷ Zeros ∷ Zeros ∷ Zeros ∷ Value 8080 8 ∷ Zeros ∷ []
+fixedFields R20 types = OneOf Services ∷ Value 0 2 ∷ Zeros ∷ Zeros ∷ Zeros ∷ Zeros ∷ Zeros ∷ []
+fixedFields R30 types = Zeros ∷ types ∷ Zeros ∷ Zeros ∷ Zeros ∷ Zeros ∷ Zeros ∷ []
+fixedFields R31 types = Zeros ∷ Zeros ∷ Zeros ∷ Zeros ∷ Zeros ∷ Zeros ∷ Zeros ∷ []
+fixedFields R40 types = Zeros ∷ Zeros ∷ Zeros ∷ Zeros ∷ Zeros ∷ Zeros ∷ Zeros ∷ []
+fixedFields R49 types = Zeros ∷ Zeros ∷ Zeros ∷ Zeros ∷ Value 3 1 ∷ OneOf Lines ∷ OneOf Columns ∷ []
+fixedFields R50 types = Zeros ∷ OneOf SpecificationTypes ∷ Zeros ∷ Zeros ∷ Zeros ∷ Zeros ∷ Zeros ∷ []
+fixedFields R88 types = Value 0 2 ∷ Value 0 2 ∷ Zeros ∷ Zeros ∷ Zeros ∷ Zeros ∷ Zeros ∷ []
+fixedFields R89 types = Value 0 2 ∷ Value 0 2 ∷ Zeros ∷ Zeros ∷ Zeros ∷ Zeros ∷ Zeros ∷ []
+fixedFields Other types = Unknown ∷ Unknown ∷ Unknown ∷ Unknown ∷ Unknown ∷ Unknown ∷ Unknown ∷ []
 
+-- field 1 is NY, and what the table does not have is zeros; `s` is the record's own service
 unfoldable pub fixedFor : Kind → ℕ → ℕ → Remedy
-fixedFor k field s = if eqb field 1 then Start else fixedBehind1 k field s
+fixedFor k field s =
+    if eqb field 1 then Start
+    else (if ltb field 2 then Zeros else (if ltb 8 field then Zeros else getD (fixedFields k (typesOf s)) (field - 2) Unknown))

@@ -1,7 +1,7 @@
 // The fixed value of each field of each record type, and what a field may be told to have.
 
 ghost use mathlib.Core.Path.{_≡_};
-ghost use Rattle.tool_fixed.specs.Fixed.{fixedBehind1, fixedFor};
+ghost use Rattle.tool_fixed.specs.Fixed.{typesOf, fixedFields, fixedFor};
 use rules::Kind;
 
 // Values that a field chooses from.
@@ -23,7 +23,7 @@ pub enum Remedy {
     Start,
     Zeros,
     OneOf(Choice),
-    // a first number above 0, and none behind 9999999
+    // a first number above 0, and none after the last one
     AboveZero,
     NoneLeft,
     // the account's last digit; none where the ten before it cannot be right
@@ -31,88 +31,56 @@ pub enum Remedy {
     NoDigit,
 }
 
-// The fixed value of a field of a record 10, which has no service and no type.
-fn fixed_start(field: u8) -> Remedy
-    ensures { λ x. ⌜ x ≡ fixedBehind1 Kind.R10 field 0 ⌝ }
-{
-    match field {
-        2 => Remedy::Value(0, 2),
-        3 => Remedy::Value(0, 2),
-        7 => Remedy::Value(8080, 8),
-        _ => Remedy::Zeros,
-    }
-}
-
-fn fixed_assignment(field: u8) -> Remedy
-    ensures { λ x. ⌜ x ≡ fixedBehind1 Kind.R20 field 0 ⌝ }
-{
-    match field {
-        2 => Remedy::OneOf(Choice::Services),
-        3 => Remedy::Value(0, 2),
-        _ => Remedy::Zeros,
-    }
-}
-
 // Each service has its own types of record 30.
-fn fixed_payment(field: u8, service: u8) -> Remedy
-    ensures { λ x. ⌜ x ≡ fixedBehind1 Kind.R30 field service ⌝ }
+fn types_of(service: u8) -> Remedy
+    ensures { λ x. ⌜ x ≡ typesOf service ⌝ }
 {
-    if field != 3 {
-        return Remedy::Zeros;
-    }
     if service == 1 {
         return Remedy::OneOf(Choice::ClaimTypes);
     }
     Remedy::OneOf(Choice::RemittanceTypes)
 }
 
-fn fixed_message(field: u8) -> Remedy
-    ensures { λ x. ⌜ x ≡ fixedBehind1 Kind.R49 field 0 ⌝ }
+// What fields 2 to 8 of a record type must have where they are refused with 7; `types` are those of a record 30.
+fn fixed_fields(kind: Kind, types: Remedy) -> [Remedy; 7]
+    ensures { λ x. ⌜ x ≡ fixedFields kind types ⌝ }
 {
-    match field {
-        6 => Remedy::Value(3, 1),
-        7 => Remedy::OneOf(Choice::Lines),
-        8 => Remedy::OneOf(Choice::Columns),
-        _ => Remedy::Zeros,
+    let zeros = Remedy::Zeros;
+    let none = Remedy::Value(0, 2);
+    let service = Remedy::OneOf(Choice::Services);
+    let receiver = Remedy::Value(8080, 8);
+    let mark = Remedy::Value(3, 1);
+    let line = Remedy::OneOf(Choice::Lines);
+    let column = Remedy::OneOf(Choice::Columns);
+    let specified = Remedy::OneOf(Choice::SpecificationTypes);
+    let unknown = Remedy::Unknown;
+    match kind {
+        Kind::R10 => [none, none, zeros, zeros, zeros, receiver, zeros],
+        Kind::R20 => [service, none, zeros, zeros, zeros, zeros, zeros],
+        Kind::R30 => [zeros, types, zeros, zeros, zeros, zeros, zeros],
+        Kind::R31 => [zeros, zeros, zeros, zeros, zeros, zeros, zeros],
+        Kind::R40 => [zeros, zeros, zeros, zeros, zeros, zeros, zeros],
+        Kind::R49 => [zeros, zeros, zeros, zeros, mark, line, column],
+        Kind::R50 => [zeros, specified, zeros, zeros, zeros, zeros, zeros],
+        Kind::R88 => [none, none, zeros, zeros, zeros, zeros, zeros],
+        Kind::R89 => [none, none, zeros, zeros, zeros, zeros, zeros],
+        Kind::Other => [unknown; 7],
     }
 }
 
-fn fixed_specification(field: u8) -> Remedy
-    ensures { λ x. ⌜ x ≡ fixedBehind1 Kind.R50 field 0 ⌝ }
-{
-    match field {
-        3 => Remedy::OneOf(Choice::SpecificationTypes),
-        _ => Remedy::Zeros,
-    }
-}
-
-fn fixed_end(field: u8) -> Remedy
-    ensures { λ x. ⌜ x ≡ fixedBehind1 Kind.R88 field 0 ⌝ }
-{
-    match field {
-        2 => Remedy::Value(0, 2),
-        3 => Remedy::Value(0, 2),
-        _ => Remedy::Zeros,
-    }
-}
-
-// What a field must have that is refused with 7.
+// What a field must have that is refused with 7: NY in field 1, and zeros in what the table does not have.
 pub fn fixed(kind: Kind, field: u8, service: u8) -> Remedy
     ensures { λ x. ⌜ x ≡ fixedFor kind field service ⌝ }
 {
     if field == 1 {
         return Remedy::Start;
     }
-    match kind {
-        Kind::R10 => fixed_start(field),
-        Kind::R20 => fixed_assignment(field),
-        Kind::R30 => fixed_payment(field, service),
-        Kind::R31 => Remedy::Zeros,
-        Kind::R40 => Remedy::Zeros,
-        Kind::R49 => fixed_message(field),
-        Kind::R50 => fixed_specification(field),
-        Kind::R88 => fixed_end(field),
-        Kind::R89 => fixed_end(field),
-        Kind::Other => Remedy::Unknown,
+    if field < 2 {
+        return Remedy::Zeros;
     }
+    if 8 < field {
+        return Remedy::Zeros;
+    }
+    let fields = fixed_fields(kind, types_of(service));
+    fields[field as usize - 2]
 }

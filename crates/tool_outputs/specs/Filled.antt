@@ -1,36 +1,46 @@
 -- What is handed on to be kept as a file: the first bytes of a lent output, and they are the whole of what was to be written.
 -- Assumes nothing.
-use Prim.Native.Nat.{ℕ}
+use Prim.Native.Nat.{ℕ, _*_}
 use mathlib.Core.Path.{_≡_}
 use mathlib.Core.List.{List}
 use lib.ListN.{length, take}
+use Rattle.limits.specs.Limits.{recordBytes}
 use Rattle.dates.specs.declared.ProcessDay.{ProcessDay}
-use Rattle.operations.specs.Closing.{closeOf, closedFile}
-use Rattle.operations.specs.Joining.{joinOf, joinedFile}
-use Rattle.operations.specs.Parting.{partOf, firstPart, secondPart}
-use Rattle.operations.specs.declared.Parting.the-variants.{Parted, NotParted}
-use Rattle.rules.specs.declared.Verdict.the-variants as verdict
+use Rattle.figures.specs.declared.totals.Totals.{Totals}
+use Rattle.rules.specs.declared.Verdict.{Verdict}
+use Rattle.rules.specs.declared.Verdict.the-variants.{Accepted, Refused}
+use Rattle.operations.specs.Closing.{closeOf, closedFile, closedBytes}
+use Rattle.operations.specs.Joining.{joinOf, joinedFile, joinedBytes}
+use Rattle.operations.specs.Parting.{firstPart, secondPart}
+use Rattle.operations.specs.Promises.{PartPromise}
+use Rattle.operations.specs.declared.Parting.{Parting}
+use Rattle.operations.specs.declared.Parting.the-variants.{Parted}
 use Rattle.io.specs.Counts.{Counts}
 use Rattle.tool_outputs.specs.declared.Output.{Output}
-use Rattle.tool_outputs.specs.declared.Output.the-variants.{File, Refused}
-use Rattle.tool_outputs.specs.declared.Parts.{Parts}
-use Rattle.tool_outputs.specs.declared.Parts.the-variants as parts
+use Rattle.tool_outputs.specs.declared.Output.the-variants as output
 
 -- the first n bytes of an output are these bytes, all of them
 abbrev pub Filled : List ℕ → List ℕ → ℕ → Type 0
 Filled w out n = Counts n out × (take n out ≡ w)
 
--- a closed draft: the answer is closing's, and the file is the one that the draft is closed to
-unfoldable pub Closed : ProcessDay → List ℕ → ℕ → List ℕ → Output → Type 0
-Closed day d room out (File n t) = (closeOf day d room ≡ verdict.Accepted t) × Filled (closedFile d) out n
-Closed day d room out (Refused x) = closeOf day d room ≡ verdict.Refused x
+-- a verdict with the bytes of its file
+unfoldable pub sized : Verdict → Output
+sized (Accepted t) = output.File (recordBytes * (t .records .0)) t
+sized (Refused x) = output.Refused x
+
+-- a closed draft: closing's answer, the whole output afterwards, and that its first bytes are the file that the draft is closed to
+pub record Closed (day : ProcessDay) (d before after : List ℕ) (x : Output) : Type 0 where
+  pub answers : x ≡ sized (closeOf day d (length before))
+  pub leaves : after ≡ closedBytes day d before
+  pub filled : (n : ℕ) (t : Totals) → x ≡ output.File n t → Filled (closedFile d) after n
 
 -- two joined files
-unfoldable pub Joined : ProcessDay → List ℕ → List ℕ → ℕ → List ℕ → Output → Type 0
-Joined day a b room out (File n t) = (joinOf day a b room ≡ verdict.Accepted t) × Filled (joinedFile a b t) out n
-Joined day a b room out (Refused x) = joinOf day a b room ≡ verdict.Refused x
+pub record Joined (day : ProcessDay) (a b before after : List ℕ) (x : Output) : Type 0 where
+  pub answers : x ≡ sized (joinOf day a b (length before))
+  pub leaves : after ≡ joinedBytes day a b before
+  pub filled : (n : ℕ) (t : Totals) → x ≡ output.File n t → Filled (joinedFile a b t) after n
 
 -- the two parts of a file
-unfoldable pub PartedTo : ProcessDay → List ℕ → ℕ → ℕ → ℕ → List ℕ → List ℕ → Parts → Type 0
-PartedTo day b k room1 room2 out1 out2 (parts.Files n m) = (partOf day b k room1 room2 ≡ Parted) × Filled (firstPart k b) out1 n × Filled (secondPart k b) out2 m
-PartedTo day b k room1 room2 out1 out2 (parts.Refused x) = partOf day b k room1 room2 ≡ NotParted x
+pub record PartedTo (day : ProcessDay) (b : List ℕ) (k : ℕ) (before1 before2 after1 after2 : List ℕ) (x : Parting) : Type 0 where
+  pub promised : PartPromise day b k before1 before2 x after1 after2
+  pub filled : (n m : ℕ) → x ≡ Parted n m → Filled (firstPart k b) after1 n × Filled (secondPart k b) after2 m

@@ -1,4 +1,6 @@
-// The tool's words: what a refusal's number means, and what a field is called.
+// The tool's phrases: what a refusal's number means, what a field is called, and how the tool is used.
+
+pub mod help;
 
 use libc::STDOUT_FILENO;
 use rules::Kind;

@@ -1,4 +1,4 @@
--- The places that the tool shows are those of the rules: each rule on a field's bytes looks at the place that the field has here.
+-- The positions that the tool shows are those of the rules: each rule on a field's bytes looks at the positions that the field has here.
 -- Assumes nothing.
 use Prim.Native.Nat.{ℕ}
 use mathlib.Core.Path.{_≡_, refl}
@@ -11,26 +11,26 @@ use Rattle.rules.specs.Layouts.{tableFor}
 use Rattle.rules.specs.declared.Kind.{Kind}
 use Rattle.rules.specs.declared.Kind.the-variants.{R10, R20, R30, R31, R40, R49, R50, R88, R89, Other}
 use Rattle.rules.specs.declared.Assignment.{Assignment}
-use Rattle.tool_positions.specs.Places.{placeOf}
+use Rattle.tool_positions.specs.Positions.{positionsOf}
 
-abbrev pub placed : Kind → Row → Bool
-placed k (at field from to x) = eqb from (placeOf k field .from) && eqb to (placeOf k field .to)
-placed k (must t n field) = true
-placed k (file t n field) = true
+abbrev pub stands : Kind → Row → Bool
+stands k (at field from to x) = eqb from (positionsOf k field .from) && eqb to (positionsOf k field .to)
+stands k (must t n field) = true
+stands k (file t n field) = true
 
-unfoldable pub allPlaced : Kind → List Row → Bool
-allPlaced k [] = true
-allPlaced k (row ∷ rows) = placed k row && allPlaced k rows
+unfoldable pub allStand : Kind → List Row → Bool
+allStand k [] = true
+allStand k (row ∷ rows) = stands k row && allStand k rows
 
-pub places-of-rules : (k : Kind) (w : Window) (a : Assignment) (r : List ℕ) → allPlaced k (tableFor k w a r) ≡ true
-unfolding placeOf allPlaced
-places-of-rules R10 w a r = refl
-places-of-rules R20 w a r = refl
-places-of-rules R30 w a r = refl
-places-of-rules R31 w a r = refl
-places-of-rules R40 w a r = refl
-places-of-rules R49 w a r = refl
-places-of-rules R50 w a r = refl
-places-of-rules R88 w a r = refl
-places-of-rules R89 w a r = refl
-places-of-rules Other w a r = refl
+pub positions-of-rules : (k : Kind) (w : Window) (a : Assignment) (r : List ℕ) → allStand k (tableFor k w a r) ≡ true
+unfolding positionsOf allStand
+positions-of-rules R10 w a r = refl
+positions-of-rules R20 w a r = refl
+positions-of-rules R30 w a r = refl
+positions-of-rules R31 w a r = refl
+positions-of-rules R40 w a r = refl
+positions-of-rules R49 w a r = refl
+positions-of-rules R50 w a r = refl
+positions-of-rules R88 w a r = refl
+positions-of-rules R89 w a r = refl
+positions-of-rules Other w a r = refl

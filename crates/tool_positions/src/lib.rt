@@ -1,13 +1,13 @@
 // Where the fields of a record stand, positions counted from 1.
 
 ghost use mathlib.Core.Path.{_≡_};
-ghost use Prim.Native.Nat.{_<_};
-ghost use Rattle.tool_positions.specs.Places.{endsOf, nowhere, placeOf};
+ghost use Rattle.tool_positions.specs.Positions.{endsOf, nowhere, positionsOf};
+use field_words::wide;
 use rules::Kind;
 
-pub struct Place {
-    pub from: usize,
-    pub to: usize,
+pub struct Positions {
+    pub from: u64,
+    pub to: u64,
 }
 
 // The last position of each field, with 0 before the first. A record has 8 to 10 fields.
@@ -28,21 +28,15 @@ fn ends_of(kind: Kind) -> [u8; 11]
     }
 }
 
-fn wide(b: u8) -> usize
-    ensures { λ r. ⌜ (r ≡ b) × (r < 256) ⌝ }
-{
-    b as usize
-}
-
-fn nowhere() -> Place
+fn nowhere() -> Positions
     ensures { λ p. ⌜ p ≡ nowhere ⌝ }
 {
-    Place { from: 0, to: 0 }
+    Positions { from: 0, to: 0 }
 }
 
-// The place of a field; from 0 where there is no such field.
-pub fn place_of(kind: Kind, field: usize) -> Place
-    ensures { λ p. ⌜ p ≡ placeOf kind field ⌝ }
+// The positions of a field; from 0 where there is no such field.
+pub fn positions_of(kind: Kind, field: usize) -> Positions
+    ensures { λ p. ⌜ p ≡ positionsOf kind field ⌝ }
 {
     if field < 1 {
         return nowhere();
@@ -51,7 +45,7 @@ pub fn place_of(kind: Kind, field: usize) -> Place
         return nowhere();
     }
     let ends = ends_of(kind);
-    Place {
+    Positions {
         from: wide(ends[field - 1]) + 1,
         to: wide(ends[field]),
     }

@@ -1,24 +1,25 @@
-// What would be right in the place of a refused field, where the rules know it.
+// What would be right in a refused field, where the rules know it, and which record types may stand next.
 
 ghost use mathlib.Core.Path.{_≡_};
 ghost use lib.ListN.{length};
+ghost use Rattle.limits.specs.Limits.{recordBytes};
 ghost use Rattle.figures.specs.Totals.{none};
 ghost use Rattle.fields.specs.Accounts.{accountOf};
 ghost use Rattle.rules.specs.Run.{recordsOf};
-ghost use Rattle.tool_walk.specs.Behind.{outsideOf, behindOf, Followed};
-ghost use Rattle.tool_remedies.specs.Right.{accountPart, accountFor, remedyOf, atHand, allowedAt};
+ghost use Rattle.tool_walk.specs.Seen.{outsideOf, seenIn, Followed};
+ghost use Rattle.tool_remedies.specs.Remedies.{accountPart, accountFor, remedyFor, atHand, nextTypes};
 use field_accounts::Account;
 use figures::amounts::Amount;
 use figures::groups::Group;
+use limits::RECORD_BYTES;
 use rules::Assignment;
 use rules::Kind;
 use rules::Mode;
-pub use tool_fixed::Choice;
-pub use tool_fixed::Remedy;
-use tool_walk::Behind;
+use tool_fixed::Remedy;
+use tool_walk::Seen;
 
-// The record types that may stand in a place.
-pub struct Allowed {
+// The record types that may stand next.
+pub struct NextTypes {
     pub r10: bool,
     pub r20: bool,
     pub r30: bool,
@@ -32,7 +33,7 @@ pub struct Allowed {
 
 // A digit that is wrong in an account.
 fn account(kind: Kind, r: &[u8]) -> Remedy
-    requires { ⌜ length (now r) ≡ 81 ⌝ }
+    requires { ⌜ length (now r) ≡ recordBytes ⌝ }
     ensures { λ x. ⌜ x ≡ accountFor kind (now (r .entry)) ⌝ }
 {
     match account_in(kind, r) {
@@ -44,7 +45,7 @@ fn account(kind: Kind, r: &[u8]) -> Remedy
 }
 
 fn account_in(kind: Kind, r: &[u8]) -> Account
-    requires { ⌜ length (now r) ≡ 81 ⌝ }
+    requires { ⌜ length (now r) ≡ recordBytes ⌝ }
     ensures { λ x. ⌜ x ≡ accountOf (accountPart kind (now (r .entry))) ⌝ }
 {
     if run_order::number_of(kind) == 20 {
@@ -53,37 +54,37 @@ fn account_in(kind: Kind, r: &[u8]) -> Account
     fields::account_at(r, 22, 32)
 }
 
-// What would be right in this field of the record behind the others.
-pub fn right_for(number: u8, field: u8, before: &[u8], r: &[u8]) -> Remedy
-    ensures { λ x. ⌜ (length (now (r .entry)) ≡ 81 → Followed (outsideOf Kind.Other none) (recordsOf (now (before .entry))) → x ≡ remedyOf number field (behindOf (recordsOf (now (before .entry)))) (now (r .entry))) ⌝ }
+// What would be right in this field of the record after the others.
+pub fn remedy_for(number: u8, field: u8, before: &[u8], r: &[u8]) -> Remedy
+    ensures { λ x. ⌜ (length (now (r .entry)) ≡ recordBytes → Followed (outsideOf Kind.Other none) (recordsOf (now (before .entry))) → x ≡ remedyFor number field (seenIn (recordsOf (now (before .entry)))) (now (r .entry))) ⌝ }
 {
-    if r.len() != 81 {
+    if r.len() != RECORD_BYTES {
         return Remedy::Unknown;
     }
     let kind = run_order::kind_of(r);
     match number {
         7 => tool_fixed::fixed(kind, field, fields::code_at(r, 3)),
         11 => account(kind, r),
-        12 => tool_expected::repeated(kind, field, tool_walk::left_by(before)),
-        18 => tool_expected::figure_of(kind, field, tool_walk::left_by(before)),
+        12 => tool_expected::repeated(kind, field, tool_walk::seen_in(before)),
+        18 => tool_expected::figure_of(kind, field, tool_walk::seen_in(before)),
         _ => Remedy::Unknown,
     }
 }
 
 // The assignment at hand, as far as it decides what may follow.
-fn at_hand(b: Behind) -> Assignment
-    ensures { λ x. ⌜ x ≡ atHand b ⌝ }
+fn at_hand(seen: Seen) -> Assignment
+    ensures { λ x. ⌜ x ≡ atHand seen ⌝ }
 {
-    let last = b.last;
-    let service = b.service;
-    let totals = b.totals;
-    let number = b.number;
+    let last = seen.last;
+    let service = seen.service;
+    let totals = seen.totals;
+    let number = seen.number;
     Assignment {
         last,
         service,
         totals,
         number,
-        code: b.code,
+        code: seen.code,
         due: Amount(0),
         group: Group {
             specified: Amount(0),
@@ -93,18 +94,18 @@ fn at_hand(b: Behind) -> Assignment
     }
 }
 
-// The record types that may stand behind these records, in a file or in a draft.
-pub fn allowed_behind(mode: Mode, before: &[u8]) -> Allowed
-    ensures { λ x. ⌜ (Followed (outsideOf Kind.Other none) (recordsOf (now (before .entry))) → x ≡ allowedAt mode (behindOf (recordsOf (now (before .entry))))) ⌝ }
+// The record types that may stand after these records, in a file or in a draft.
+pub fn types_after(mode: Mode, before: &[u8]) -> NextTypes
+    ensures { λ x. ⌜ (Followed (outsideOf Kind.Other none) (recordsOf (now (before .entry))) → x ≡ nextTypes mode (seenIn (recordsOf (now (before .entry))))) ⌝ }
 {
-    allowed_at(mode, tool_walk::left_by(before))
+    next_types(mode, tool_walk::seen_in(before))
 }
 
-fn allowed_at(mode: Mode, b: Behind) -> Allowed
-    ensures { λ x. ⌜ x ≡ allowedAt mode b ⌝ }
+fn next_types(mode: Mode, seen: Seen) -> NextTypes
+    ensures { λ x. ⌜ x ≡ nextTypes mode seen ⌝ }
 {
-    let a = at_hand(b);
-    Allowed {
+    let a = at_hand(seen);
+    NextTypes {
         r10: run_order::may_follow(mode, a, Kind::R10),
         r20: run_order::may_follow(mode, a, Kind::R20),
         r30: run_order::may_follow(mode, a, Kind::R30),

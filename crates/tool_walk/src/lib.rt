@@ -1,15 +1,14 @@
-// What the records before a refused one leave: the last record, the assignment, the transaction, and the figures.
+// What is seen in the records before a refused one: the last record, the assignment, the transaction, and the figures.
 
 ghost use mathlib.Core.Path.{_≡_};
 ghost use mathlib.Core.Bool.{true};
 ghost use lib.ListN.{length};
 ghost use Rattle.dates.specs.Dates.{readDay};
-ghost use Rattle.services.specs.Services.{serviceFor};
-ghost use Rattle.rules.specs.Codes.{serviceCode};
+ghost use Rattle.limits.specs.Limits.{recordBytes};
 ghost use Rattle.rules.specs.Payments.{theDate};
 ghost use Rattle.rules.specs.Run.{recordsOf};
 ghost use Rattle.figures.specs.Totals.{none};
-ghost use Rattle.tool_walk.specs.Behind.{outsideOf, passedOn, paidOn, onwardFor, onward, behindOf, hasRoom, Takes, Payable, Follows, Followed};
+ghost use Rattle.tool_walk.specs.Seen.{outsideOf, passedOn, paidOn, onwardFor, onward, seenIn, hasRoom, Takes, Payable, Follows, Followed};
 use dates::Date;
 use dates::Day;
 use field_digits::Digits;
@@ -17,10 +16,16 @@ use figures::amounts::Amount;
 use figures::counts::TransactionNumber;
 use figures::totals::AssignmentTotals;
 use figures::totals::Totals;
+use limits::MOST_OF_ALL;
+use limits::MOST_RECORDS;
+use limits::RECORD_BYTES;
 use rules::Kind;
 use services::Service;
 
-pub struct Behind {
+// The last transaction number: it has seven digits.
+pub const LAST_NUMBER: u64 = 9_999_999;
+
+pub struct Seen {
     pub last: Kind,
     pub service: Service,
     // the transaction's type and number; 0 before the first
@@ -31,11 +36,11 @@ pub struct Behind {
     pub file: Totals,
 }
 
-// Behind a record of this type, before any assignment.
-fn outside(kind: Kind, file: Totals) -> Behind
+// After a record of this type, before any assignment.
+fn outside(kind: Kind, file: Totals) -> Seen
     ensures { λ x. ⌜ x ≡ outsideOf kind file ⌝ }
 {
-    Behind {
+    Seen {
         last: kind,
         service: Service::Remittance,
         code: 0,
@@ -53,30 +58,20 @@ fn has_room(t: Totals) -> bool
     let transactions = t.transactions;
     let records = t.records;
     let sum = t.sum;
-    (assignments.0 < 200000)
-        & (transactions.0 < 200000)
-        & (records.0 < 200000)
-        & (sum.0 <= 99999999999999999)
+    ((assignments.0 as usize) < MOST_RECORDS)
+        & ((transactions.0 as usize) < MOST_RECORDS)
+        & ((records.0 as usize) < MOST_RECORDS)
+        & (sum.0 <= MOST_OF_ALL)
 }
 
-fn service_of(r: &[u8]) -> Service
-    requires { ⌜ length (now r) ≡ 81 ⌝ }
-    ensures { λ x. ⌜ x ≡ serviceFor (serviceCode (now (r .entry))) ⌝ }
+fn opened(seen: Seen, r: &[u8]) -> Seen
+    requires { ⌜ (length (now r) ≡ recordBytes) × (hasRoom (seen .file) ≡ true) ⌝ }
+    ensures { λ x. ⌜ x ≡ onwardFor Kind.R20 (now (r .entry)) seen ⌝ }
 {
-    if fields::code_at(r, 3) == 1 {
-        return Service::Autogiro;
-    }
-    Service::Remittance
-}
-
-fn opened(b: Behind, r: &[u8]) -> Behind
-    requires { ⌜ (length (now r) ≡ 81) × (hasRoom (b .file) ≡ true) ⌝ }
-    ensures { λ x. ⌜ x ≡ onwardFor Kind.R20 (now (r .entry)) b ⌝ }
-{
-    let file = b.file;
-    Behind {
+    let file = seen.file;
+    Seen {
         last: Kind::R20,
-        service: service_of(r),
+        service: services::service_for(fields::code_at(r, 3)),
         code: 0,
         number: TransactionNumber(0),
         totals: AssignmentTotals::none().with_assignment(),
@@ -84,18 +79,18 @@ fn opened(b: Behind, r: &[u8]) -> Behind
     }
 }
 
-fn passed(b: Behind, kind: Kind) -> Behind
-    requires { ⌜ (hasRoom (b .file) ≡ true) × (hasRoom (b .totals .totals) ≡ true) ⌝ }
-    ensures { λ x. ⌜ x ≡ passedOn kind b ⌝ }
+fn passed(seen: Seen, kind: Kind) -> Seen
+    requires { ⌜ (hasRoom (seen .file) ≡ true) × (hasRoom (seen .totals .totals) ≡ true) ⌝ }
+    ensures { λ x. ⌜ x ≡ passedOn kind seen ⌝ }
 {
-    let service = b.service;
-    let number = b.number;
-    let totals = b.totals;
-    let file = b.file;
-    Behind {
+    let service = seen.service;
+    let number = seen.number;
+    let totals = seen.totals;
+    let file = seen.file;
+    Seen {
         last: kind,
         service,
-        code: b.code,
+        code: seen.code,
         number,
         totals: totals.with_record(),
         file: file.with_record(),
@@ -111,24 +106,24 @@ fn date_from(ddmmyy: u64) -> Date
     }
 }
 
-// Behind a record 30 of this number, amount and date.
-fn with_payment(b: Behind, code: u8, number: u32, amount: Amount, date: Date) -> Behind
-    requires { ⌜ (hasRoom (b .file) ≡ true) × (hasRoom (b .totals .totals) ≡ true) ⌝ }
-    ensures { λ x. ⌜ (Takes b amount → x ≡ paidOn code number amount date b) ⌝ }
+// After a record 30 of this number, amount and date.
+fn with_payment(seen: Seen, code: u8, number: u32, amount: Amount, date: Date) -> Seen
+    requires { ⌜ (hasRoom (seen .file) ≡ true) × (hasRoom (seen .totals .totals) ≡ true) ⌝ }
+    ensures { λ x. ⌜ (Takes seen amount → x ≡ paidOn code number amount date seen) ⌝ }
 {
-    let service = b.service;
-    let totals = b.totals;
+    let service = seen.service;
+    let totals = seen.totals;
     let figures = totals.totals;
-    let file = b.file;
+    let file = seen.file;
     let own = figures.sum;
     let whole = file.sum;
-    if !own.holds(amount, Amount(99999999999999999)) {
-        return b;
+    if !own.holds(amount, Amount(MOST_OF_ALL)) {
+        return seen;
     }
-    if !whole.holds(amount, Amount(99999999999999999)) {
-        return b;
+    if !whole.holds(amount, Amount(MOST_OF_ALL)) {
+        return seen;
     }
-    Behind {
+    Seen {
         last: Kind::R30,
         service,
         code,
@@ -138,66 +133,64 @@ fn with_payment(b: Behind, code: u8, number: u32, amount: Amount, date: Date) ->
     }
 }
 
-fn paid(b: Behind, r: &[u8]) -> Behind
-    requires { ⌜ (length (now r) ≡ 81) × (hasRoom (b .file) ≡ true) × (hasRoom (b .totals .totals) ≡ true) ⌝ }
-    ensures { λ x. ⌜ (Payable b (now (r .entry)) → x ≡ onwardFor Kind.R30 (now (r .entry)) b) ⌝ }
+fn paid(seen: Seen, r: &[u8]) -> Seen
+    requires { ⌜ (length (now r) ≡ recordBytes) × (hasRoom (seen .file) ≡ true) × (hasRoom (seen .totals .totals) ≡ true) ⌝ }
+    ensures { λ x. ⌜ (Payable seen (now (r .entry)) → x ≡ onwardFor Kind.R30 (now (r .entry)) seen) ⌝ }
 {
     let Digits::Number(number) = fields::number_at(r, 9, 15) else {
-        return b;
+        return seen;
     };
     let Digits::Number(ddmmyy) = fields::number_at(r, 16, 21) else {
-        return b;
+        return seen;
     };
     let Digits::Number(amount) = fields::number_at(r, 33, 49) else {
-        return b;
+        return seen;
     };
-    if 9999999 < number {
-        return b;
+    if LAST_NUMBER < number {
+        return seen;
     }
     let code = fields::code_at(r, 5);
-    with_payment(b, code, number as u32, Amount(amount), date_from(ddmmyy))
+    with_payment(seen, code, number as u32, Amount(amount), date_from(ddmmyy))
 }
 
-// Behind one record more.
-fn grown(b: Behind, r: &[u8]) -> Behind
-    requires { ⌜ length (now r) ≡ 81 ⌝ }
-    ensures { λ x. ⌜ (Follows b (now (r .entry)) → x ≡ onward (now (r .entry)) b) ⌝ }
+// After one record more.
+fn grown(seen: Seen, r: &[u8]) -> Seen
+    requires { ⌜ length (now r) ≡ recordBytes ⌝ }
+    ensures { λ x. ⌜ (Follows seen (now (r .entry)) → x ≡ onward (now (r .entry)) seen) ⌝ }
 {
-    let file = b.file;
-    let totals = b.totals;
+    let file = seen.file;
+    let totals = seen.totals;
     if !has_room(file) {
-        return b;
+        return seen;
     }
     if !has_room(totals.totals) {
-        return b;
+        return seen;
     }
     let kind = run_order::kind_of(r);
     match kind {
         Kind::R10 => outside(Kind::R10, file.with_record()),
-        Kind::R20 => opened(b, r),
-        Kind::R30 => paid(b, r),
-        Kind::R31 => passed(b, Kind::R31),
-        Kind::R40 => passed(b, Kind::R40),
-        Kind::R49 => passed(b, Kind::R49),
-        Kind::R50 => passed(b, Kind::R50),
-        Kind::R88 => passed(b, Kind::R88),
-        Kind::R89 => passed(b, Kind::R89),
-        Kind::Other => b,
+        Kind::R20 => opened(seen, r),
+        Kind::R30 => paid(seen, r),
+        Kind::R31 => passed(seen, Kind::R31),
+        Kind::R40 => passed(seen, Kind::R40),
+        Kind::R49 => passed(seen, Kind::R49),
+        Kind::R50 => passed(seen, Kind::R50),
+        Kind::R88 => passed(seen, Kind::R88),
+        Kind::R89 => passed(seen, Kind::R89),
+        Kind::Other => seen,
     }
 }
 
-// Behind all these records.
-pub fn left_by(records: &[u8]) -> Behind
-    ensures { λ x. ⌜ (Followed (outsideOf Kind.Other none) (recordsOf (now (records .entry))) → x ≡ behindOf (recordsOf (now (records .entry)))) ⌝ }
+// After all these records.
+pub fn seen_in(records: &[u8]) -> Seen
+    ensures { λ x. ⌜ (Followed (outsideOf Kind.Other none) (recordsOf (now (records .entry))) → x ≡ seenIn (recordsOf (now (records .entry)))) ⌝ }
 {
-    let count = records.len() / 81;
-    let mut b = outside(Kind::Other, Totals::none());
+    let count = records.len() / RECORD_BYTES;
+    let mut seen = outside(Kind::Other, Totals::none());
     let mut j: usize = 0;
     while j < count {
-        let at = 81 * j;
-        let end = at + 81;
-        b = grown(b, &records[at..end]);
+        seen = grown(seen, rules::record_at(records, j));
         j += 1;
     }
-    b
+    seen
 }

@@ -5,8 +5,9 @@ ghost use lib.ListN.{length};
 use dates::ProcessDay;
 use field_digits::Digits;
 use libc::STDOUT_FILENO;
-use operations::Parting;
-use rules::Verdict;
+
+// Room for the longest vector, and for each of its outputs.
+const ROOM: usize = 163_840;
 
 // Six digits of the first line, from this position on; 0 where there are none.
 fn six_at(all: &[u8], from: usize) -> u64
@@ -65,14 +66,6 @@ fn close(all: &[u8], out: &mut [u8])
     program_lines::print_number(hash(&out[0..room]));
 }
 
-// The operand of a refusal.
-fn print_operand(verdict: Verdict) {
-    match verdict {
-        Verdict::Accepted(_t) => {}
-        Verdict::Refused(x) => program_lines::print_number(x.operand as u64),
-    }
-}
-
 // `join  DDMMYY LENGTH ROOM`, then the first file, which has this length, and the second.
 fn join(all: &[u8], out: &mut [u8])
     requires { ⌜ 34 ≤ length (now all) ⌝ }
@@ -91,17 +84,8 @@ fn join(all: &[u8], out: &mut [u8])
     let day = program_lines::process_day(six_at(all, 7));
     let verdict = join_files::join(day, &all[34..to], &all[to..], &mut out[0..room]);
     program_lines::print_answer(verdict);
-    print_operand(verdict);
+    program_lines::print_operand(verdict);
     program_lines::print_number(hash(&out[0..room]));
-}
-
-fn print_parting(parting: Parting) {
-    match parting {
-        Parting::Parted => {
-            io::write_all(STDOUT_FILENO, b"parted");
-        }
-        Parting::NotParted(x) => program_lines::print_answer(Verdict::Refused(x)),
-    }
 }
 
 // `part  DDMMYY K ROOM ROOM`, then a file.
@@ -118,7 +102,7 @@ fn part(all: &[u8], first: &mut [u8], second: &mut [u8])
         no_vector();
         return;
     }
-    print_parting(part_file::part(
+    program_lines::print_parting(part_file::part(
         program_lines::process_day(six_at(all, 7)),
         &all[34..],
         six_at(all, 14),
@@ -134,8 +118,8 @@ fn answer(all: &[u8]) {
     if all.len() < 34 {
         return answer_short(all);
     }
-    let mut first = [35u8; 163840];
-    let mut second = [35u8; 163840];
+    let mut first = [35u8; ROOM];
+    let mut second = [35u8; ROOM];
     if all[0] == b'j' {
         return join(all, &mut first);
     }
@@ -168,7 +152,7 @@ fn one(k: u64) -> bool {
     if fd < 0 {
         return false;
     }
-    let mut buffer = [0u8; 163840];
+    let mut buffer = [0u8; ROOM];
     let n = io::read_full(fd, &mut buffer);
     libc::close(fd);
     io::write_all(STDOUT_FILENO, &name);

@@ -1,4 +1,4 @@
--- An end record in two parts, as it is written: fields 1 to 4, and its figures with the zeros behind them.
+-- An end record in two parts, as it is written: fields 1 to 4, and its figures with the zeros after them.
 -- Assumes nothing.
 use Prim.Native.Nat.{ℕ}
 use mathlib.Core.List.{List, [], _∷_, _++_}

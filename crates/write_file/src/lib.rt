@@ -5,6 +5,7 @@ ghost use mathlib.Core.List.{[], _∷_, _++_};
 ghost use Prim.Native.Nat.{_+_, _≤_};
 ghost use lib.ListN.{length, take, drop};
 ghost use Rattle.fields.specs.Numbers.{written};
+ghost use Rattle.limits.specs.Limits.{recordBytes};
 ghost use Rattle.operations.specs.Ends.{endRecord, end89};
 ghost use Rattle.write_file.specs.Parts.{headBytes, figureBytes};
 use dates::Date;
@@ -23,7 +24,7 @@ pub fn copy_to(out: &mut [u8], bytes: &[u8])
     }
 }
 
-// Puts a byte behind the first `at` bytes.
+// Puts a byte after the first `at` bytes.
 fn put_byte(out: &mut [u8], at: usize, byte: u8)
     requires { ⌜ at + 1 ≤ length (now out) ⌝ }
     ensures { λ _. ⌜ now (out .exit) ≡ take at (now (out .entry)) ++ ((byte ∷ []) ++ drop (at + 1) (now (out .entry))) ⌝ }
@@ -31,18 +32,18 @@ fn put_byte(out: &mut [u8], at: usize, byte: u8)
     out[at] = byte;
 }
 
-// Puts a number behind the first `at` bytes, in as many digits as the field has places.
-fn put_digits(out: &mut [u8], at: usize, places: usize, n: u64)
-    requires { ⌜ at + places ≤ length (now out) ⌝ }
-    ensures { λ _. ⌜ now (out .exit) ≡ take at (now (out .entry)) ++ (written places n ++ drop (at + places) (now (out .entry))) ⌝ }
+// Puts a number after the first `at` bytes, in as many digits as the field is wide.
+fn put_digits(out: &mut [u8], at: usize, width: usize, n: u64)
+    requires { ⌜ at + width ≤ length (now out) ⌝ }
+    ensures { λ _. ⌜ now (out .exit) ≡ take at (now (out .entry)) ++ (written width n ++ drop (at + width) (now (out .entry))) ⌝ }
 {
-    let end = at + places;
+    let end = at + width;
     fields::put_number(&mut out[at..end], n);
 }
 
 // Fields 1 to 4 of an end record, over the start of an output.
 fn put_head(out: &mut [u8], service: u64, kind: u64)
-    requires { ⌜ 81 ≤ length (now out) ⌝ }
+    requires { ⌜ recordBytes ≤ length (now out) ⌝ }
     ensures { λ _. ⌜ now (out .exit) ≡ headBytes service kind ++ drop 8 (now (out .entry)) ⌝ }
 {
     put_byte(out, 0, 78);
@@ -72,8 +73,8 @@ fn put_figures(out: &mut [u8], t: Totals, last: Date)
 
 // An end record over the start of an output.
 pub fn put_end(out: &mut [u8], service: u64, kind: u64, t: Totals, last: Date)
-    requires { ⌜ 81 ≤ length (now out) ⌝ }
-    ensures { λ _. ⌜ now (out .exit) ≡ endRecord service kind t last ++ drop 81 (now (out .entry)) ⌝ }
+    requires { ⌜ recordBytes ≤ length (now out) ⌝ }
+    ensures { λ _. ⌜ now (out .exit) ≡ endRecord service kind t last ++ drop recordBytes (now (out .entry)) ⌝ }
 {
     put_head(out, service, kind);
     put_figures(&mut out[8..], t, last);
@@ -81,8 +82,8 @@ pub fn put_end(out: &mut [u8], service: u64, kind: u64, t: Totals, last: Date)
 
 // A file over the start of an output: its start, its assignments, and its 89.
 pub fn put_file(out: &mut [u8], start: &[u8], body: &[u8], t: Totals)
-    requires { ⌜ length (now start) + length (now body) + 81 ≤ length (now out) ⌝ }
-    ensures { λ _. ⌜ now (out .exit) ≡ (now (start .entry) ++ (now (body .entry) ++ end89 t)) ++ drop (length (now (start .entry)) + length (now (body .entry)) + 81) (now (out .entry)) ⌝ }
+    requires { ⌜ length (now start) + length (now body) + recordBytes ≤ length (now out) ⌝ }
+    ensures { λ _. ⌜ now (out .exit) ≡ (now (start .entry) ++ (now (body .entry) ++ end89 t)) ++ drop (length (now (start .entry)) + length (now (body .entry)) + recordBytes) (now (out .entry)) ⌝ }
 {
     let from = start.len();
     let to = from + body.len();

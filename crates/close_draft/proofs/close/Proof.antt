@@ -2,14 +2,14 @@
 -- Assumes nothing.
 use mathlib.Core.Path.{refl}
 use native.Mathlib.Omega.{arith}
-use Rattle.run_sums.proofs.Held.{roomy}
+use Rattle.run_figures.proofs.Held.{roomy}
 use Rattle.close_draft.proofs.Answers.{no-day, was-refused, too-short, may-write, wrote}
 use borrow.Author.Needs.{needs}
 use Rattle.close_draft.proofs.close.Statement.{statement}
 use Rattle.close_draft.proofs.close.Tie as tie
 use Rattle.close_draft.proofs.close.Reads as reads
 use Rattle.close_draft.proofs.close.Lts as lts
-use Rattle.check_file.proofs.refuse.Reads as refuse-reads
+use Rattle.rules.proofs.Refusal.whole.Reads as whole-reads
 use Rattle.close_weigh.proofs.weigh.Reads as weigh-reads
 use Rattle.close_write.proofs.write.Reads as write-reads
 use Rattle.dates.proofs.ProcessDay.window.Reads as window-reads
@@ -23,13 +23,13 @@ enum-known-w c = search needs
 enum-told : tie.Need-enum-told
 enum-told c = search needs
 
-refuse-requires : tie.Need-refuse-requires
-refuse-requires c κs = search needs
+whole-requires : tie.Need-whole-requires
+whole-requires c κs = search needs
 
 returns : tie.Need-returns
 returns c =
     let a = c .before .before .before .before .before .before .args in
-    no-day (a .day) (a .draft .now) (a .out .now) _ (c .before .before .before .window .ensures) _ (c .refuse .ensures) (c .before .enum-told .given .1)
+    no-day (a .day) (a .draft .now) (a .out .now) _ (c .before .before .before .window .ensures) _ (c .whole .ensures) (c .before .enum-told .given .1)
 
 slice-aggregate-weigh : tie.Need-slice-aggregate-weigh
 slice-aggregate-weigh c = search needs
@@ -49,13 +49,13 @@ cast-if1 c = search needs
 mul-if1 : tie.Need-mul-if1
 mul-if1 c = search needs
 
-refuse-requires-2 : tie.Need-refuse-requires-2
-refuse-requires-2 c κs = search needs
+whole-requires-2 : tie.Need-whole-requires-2
+whole-requires-2 c κs = search needs
 
 returns-2 : tie.Need-returns-2
 returns-2 c =
     let a = c .before .before .before .before .before .before .before .before .before .before .before .before .before .before .before .before .args in
-    too-short (a .day) (a .draft .now) (a .out .now) _ (c .before .before .before .before .before .before .before .before .before .before .before .before .before .window .ensures) _ (c .before .before .before .before .before .before .before .before .before .before .before .w .given .1) _ (c .before .before .before .before .before .before .before .before .weigh .ensures .0) _ (c .before .before .before .before .before .t .given .1) _ (c .refuse2 .ensures) (omega arith)
+    too-short (a .day) (a .draft .now) (a .out .now) _ (c .before .before .before .before .before .before .before .before .before .before .before .before .before .window .ensures) _ (c .before .before .before .before .before .before .before .before .before .before .before .w .given .1) _ (c .before .before .before .before .before .before .before .before .weigh .ensures .0) _ (c .before .before .before .before .before .t .given .1) _ (c .whole2 .ensures) (omega arith)
 
 slice-aggregate-write : tie.Need-slice-aggregate-write
 slice-aggregate-write c = search needs
@@ -85,7 +85,7 @@ close-spec =
     window-requires
     enum-known-w
     enum-told
-    refuse-requires
+    whole-requires
     returns
     slice-aggregate-weigh
     weigh-requires
@@ -93,7 +93,7 @@ close-spec =
     enum-known-t
     cast-if1
     mul-if1
-    refuse-requires-2
+    whole-requires-2
     returns-2
     slice-aggregate-write
     write-requires

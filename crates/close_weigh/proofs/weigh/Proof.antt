@@ -1,7 +1,8 @@
 -- 2, then 3, then what the records give; only a refused draft has its records 20 counted.
 -- Assumes nothing.
-use mathlib.Core.Path.{refl, sym, _∙_}
+use mathlib.Core.Path.{sym, ap, _∙_}
 use native.Mathlib.Omega.{arith}
+use Rattle.rules.specs.declared.Verdict.the-variants.{Refused}
 use Rattle.close_weigh.proofs.Answers.{wrong-length, full, too-many-opened, on-refused, too-many-closed, on-accepted, can-close, leaves-none, leaves-figures}
 use borrow.Author.Needs.{needs}
 use Rattle.close_weigh.proofs.weigh.Statement.{statement}
@@ -9,7 +10,7 @@ use Rattle.close_weigh.proofs.weigh.Tie as tie
 use Rattle.close_weigh.proofs.weigh.Reads as reads
 use Rattle.close_weigh.proofs.weigh.Lts as lts
 use Rattle.check_file.proofs.bad_length.Reads as bad-length-reads
-use Rattle.check_file.proofs.refuse.Reads as refuse-reads
+use Rattle.rules.proofs.Refusal.whole.Reads as whole-reads
 use Rattle.close_weigh.proofs.closed_figures.Reads as closed-figures-reads
 use Rattle.close_weigh.proofs.openings_in.Reads as openings-in-reads
 use Rattle.run_loop.proofs.run_over.Reads as run-over-reads
@@ -17,21 +18,21 @@ use Rattle.run_loop.proofs.run_over.Reads as run-over-reads
 bad-length-requires : tie.Need-bad-length-requires
 bad-length-requires c κs = search needs
 
-refuse-requires : tie.Need-refuse-requires
-refuse-requires c κs = search needs
+whole-requires : tie.Need-whole-requires
+whole-requires c κs = search needs
 
 returns : tie.Need-returns
 returns c =
     let a = c .before .before .before .before .before .args in
-    (c .refuse .ensures ∙ wrong-length (a .w) (a .draft .now) _ (c .before .before .bad-length .ensures) (c .before .if1 .taken), leaves-none _ _ _ _ (c .refuse .ensures))
+    (ap Refused (c .whole .ensures) ∙ wrong-length (a .w) (a .draft .now) _ (c .before .before .bad-length .ensures) (c .before .if1 .taken), leaves-none _ _ _)
 
-refuse-requires-2 : tie.Need-refuse-requires-2
-refuse-requires-2 c κs = search needs
+whole-requires-2 : tie.Need-whole-requires-2
+whole-requires-2 c κs = search needs
 
 returns-2 : tie.Need-returns-2
 returns-2 c =
     let a = c .before .before .before .before .before .before .args in
-    (c .refuse2 .ensures ∙ full (a .w) (a .draft .now) _ (c .before .before .before .bad-length .ensures) (c .before .before .if1 .left) (omega arith), leaves-none _ _ _ _ (c .refuse2 .ensures))
+    (ap Refused (c .whole2 .ensures) ∙ full (a .w) (a .draft .now) _ (c .before .before .before .bad-length .ensures) (c .before .before .if1 .left) (omega arith), leaves-none _ _ _)
 
 slice-aggregate-run-over : tie.Need-slice-aggregate-run-over
 slice-aggregate-run-over c = search needs
@@ -51,8 +52,8 @@ add-if3 c = search needs
 add-if3-2 : tie.Need-add-if3-2
 add-if3-2 c = search needs
 
-refuse-requires-3 : tie.Need-refuse-requires-3
-refuse-requires-3 c κs = search needs
+whole-requires-3 : tie.Need-whole-requires-3
+whole-requires-3 c κs = search needs
 
 same-length : tie.Need-same-length
 same-length c = search needs
@@ -60,7 +61,7 @@ same-length c = search needs
 returns-3 : tie.Need-returns-3
 returns-3 c =
     let a = c .before .before .before .before .before .before .before .before .before .before .before .before .before .before .before .before .before .args in
-    (c .refuse3 .ensures ∙ too-many-opened (a .w) (a .draft .now) _ (c .before .before .before .before .before .before .before .before .before .before .before .before .before .before .bad-length .ensures) (c .before .before .before .before .before .before .before .before .before .before .before .before .before .if1 .left) _ (c .before .before .openings-in .ensures .0) (omega arith), leaves-none _ _ _ _ (c .refuse3 .ensures))
+    (ap Refused (c .whole3 .ensures) ∙ too-many-opened (a .w) (a .draft .now) _ (c .before .before .before .before .before .before .before .before .before .before .before .before .before .before .bad-length .ensures) (c .before .before .before .before .before .before .before .before .before .before .before .before .before .if1 .left) _ (c .before .before .openings-in .ensures .0) (omega arith), leaves-none _ _ _)
 
 enum-known-t : tie.Need-enum-known-t
 enum-known-t c = search needs
@@ -70,8 +71,11 @@ closed-figures-requires c κs =
     let a = c .before .before .before .before .before .before .before .before .before .before .before .before .before .before .args in
     can-close (a .w) (a .draft .now) (omega arith) _ (sym (c .before .before .before .before .before .before .run-over .ensures .verdict) ∙ c .before .t .given .1)
 
-refuse-requires-4 : tie.Need-refuse-requires-4
-refuse-requires-4 c κs = search needs
+cast-if4 : tie.Need-cast-if4
+cast-if4 c = search needs
+
+whole-requires-4 : tie.Need-whole-requires-4
+whole-requires-4 c κs = search needs
 
 same-length-2 : tie.Need-same-length-2
 same-length-2 c = search needs
@@ -79,7 +83,7 @@ same-length-2 c = search needs
 returns-4 : tie.Need-returns-4
 returns-4 c =
     let a = c .before .before .before .before .before .before .before .before .before .before .before .before .before .before .before .before .before .before .before .args in
-    (c .refuse4 .ensures ∙ too-many-closed (a .w) (a .draft .now) _ (c .before .before .before .before .before .before .before .before .before .before .before .before .before .before .before .before .bad-length .ensures) (c .before .before .before .before .before .before .before .before .before .before .before .before .before .before .before .if1 .left) _ (sym (c .before .before .before .before .before .before .before .before .before .before .before .run-over .ensures .verdict) ∙ c .before .before .before .before .before .before .t .given .1) _ (c .before .before .before .before .closed-figures .ensures) (omega arith), leaves-none _ _ _ _ (c .refuse4 .ensures))
+    (ap Refused (c .whole4 .ensures) ∙ too-many-closed (a .w) (a .draft .now) _ (c .before .before .before .before .before .before .before .before .before .before .before .before .before .before .before .before .bad-length .ensures) (c .before .before .before .before .before .before .before .before .before .before .before .before .before .before .before .if1 .left) _ (sym (c .before .before .before .before .before .before .before .before .before .before .before .run-over .ensures .verdict) ∙ c .before .before .before .before .before .before .t .given .1) _ (c .before .before .before .before .closed-figures .ensures) (omega arith), leaves-none _ _ _)
 
 same-length-3 : tie.Need-same-length-3
 same-length-3 c = search needs
@@ -87,7 +91,7 @@ same-length-3 c = search needs
 returns-5 : tie.Need-returns-5
 returns-5 c =
     let a = c .before .before .before .before .before .before .before .before .before .before .before .before .before .before .before .before .args in
-    (on-refused (a .w) (a .draft .now) _ (c .before .before .before .before .before .before .before .before .before .before .before .before .before .bad-length .ensures) (c .before .before .before .before .before .before .before .before .before .before .before .before .if1 .left) _ (c .before .openings-in .ensures .0) (omega arith) _ (sym (c .before .before .before .before .before .before .before .before .run-over .ensures .verdict) ∙ c .before .before .before .refusal .given .1), leaves-none _ _ _ _ refl)
+    (on-refused (a .w) (a .draft .now) _ (c .before .before .before .before .before .before .before .before .before .before .before .before .before .bad-length .ensures) (c .before .before .before .before .before .before .before .before .before .before .before .before .if1 .left) _ (c .before .openings-in .ensures .0) (omega arith) _ (sym (c .before .before .before .before .before .before .before .before .run-over .ensures .verdict) ∙ c .before .before .before .refusal .given .1), leaves-none _ _ _)
 
 same-length-4 : tie.Need-same-length-4
 same-length-4 c = search needs
@@ -102,9 +106,9 @@ weigh-spec =
     tie.close
     (tie.spec
     bad-length-requires
-    refuse-requires
+    whole-requires
     returns
-    refuse-requires-2
+    whole-requires-2
     returns-2
     slice-aggregate-run-over
     run-over-requires
@@ -112,12 +116,13 @@ weigh-spec =
     openings-in-requires
     add-if3
     add-if3-2
-    refuse-requires-3
+    whole-requires-3
     same-length
     returns-3
     enum-known-t
     closed-figures-requires
-    refuse-requires-4
+    cast-if4
+    whole-requires-4
     same-length-2
     returns-4
     same-length-3

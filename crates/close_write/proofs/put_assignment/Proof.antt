@@ -1,6 +1,10 @@
 -- The assignment's bytes as they stand, and its end directly behind them.
 -- Assumes nothing.
-use mathlib.Core.Path.{refl}
+use Prim.Native.Nat.{ℕ}
+use mathlib.Core.Path.{refl, ap, _∙_}
+use mathlib.Core.List.{List}
+use Rattle.rules.specs.Codes.{serviceCode}
+use Rattle.services.specs.Services.{codeFor, serviceFor}
 use Rattle.close_write.proofs.Files.{assignment-put}
 use borrow.Author.Needs.{needs}
 use Rattle.close_write.proofs.put_assignment.Statement.{statement}
@@ -8,6 +12,7 @@ use Rattle.close_write.proofs.put_assignment.Tie as tie
 use Rattle.close_write.proofs.put_assignment.Reads as reads
 use Rattle.close_write.proofs.put_assignment.Lts as lts
 use Rattle.close_write.proofs.service_in.Reads as service-in-reads
+use Rattle.rules.proofs.record_at.Reads as record-at-reads
 use Rattle.write_file.proofs.copy_to.Reads as copy-to-reads
 use Rattle.write_file.proofs.put_end.Reads as put-end-reads
 
@@ -17,17 +22,8 @@ mul-start c = search needs
 mul-end : tie.Need-mul-end
 mul-end c = search needs
 
-add-head : tie.Need-add-head
-add-head c = search needs
-
-sub-service-in : tie.Need-sub-service-in
-sub-service-in c = search needs
-
-part-service-in-start : tie.Need-part-service-in-start
-part-service-in-start c = search needs
-
-part-service-in-end : tie.Need-part-service-in-end
-part-service-in-end c = search needs
+record-at-requires : tie.Need-record-at-requires
+record-at-requires c κs = search needs
 
 service-in-requires : tie.Need-service-in-requires
 service-in-requires c κs = search needs
@@ -68,7 +64,9 @@ same-length c = search needs
 returns : tie.Need-returns
 returns c =
     let a = c .before .before .before .before .before .before .before .before .before .before .before .before .before .before .args in
-    (refl, assignment-put (a .draft .now) (a .out .now) _ _ (a .from) (a .next) (a .totals) (c .before .before .before .before .before .before .before .before .before .before .before .before .before .before .pre .0) (c .before .before .before .before .before .before .before .before .before .before .before .before .before .before .pre .1) _ (c .before .before .before .before .before .before .before .before .before .before .service-in .ensures) (c .before .before .before .before .before .before .copy-to .ensures) (c .before .before .put-end .ensures))
+    let p = c .before .before .before .before .before .before .before .before .before .before .before .before .before .before .pre in
+    let s = c .before .before .before .before .before .before .before .before .before .before .service-in .ensures ∙ ap (λ (r : List ℕ). codeFor (serviceFor (serviceCode r))) (c .before .before .before .before .before .before .before .before .before .before .before .record-at .ensures .0) in
+    (refl, assignment-put (a .draft .now) (a .out .now) _ _ (a .from) (a .next) (a .own) (p .0) (p .1) _ s (c .before .before .before .before .before .before .copy-to .ensures) (c .before .before .put-end .ensures))
 
 pub put-assignment-spec : {M : Type 1} → statement M
 put-assignment-spec =
@@ -76,10 +74,7 @@ put-assignment-spec =
     (tie.spec
     mul-start
     mul-end
-    add-head
-    sub-service-in
-    part-service-in-start
-    part-service-in-end
+    record-at-requires
     service-in-requires
     sub-size
     sub-copy-to

@@ -16,13 +16,13 @@ use Rattle.close_write.proofs.put_assignment.Reads as put-assignment-re
 use Rattle.write_file.proofs.copy_to.Reads as copy-to-reads
 use Rattle.write_file.proofs.put_end.Reads as put-end-reads
 use Rattle.figures.proofs.totals.AssignmentTotals.with_record.Reads as with-record-reads
-use Rattle.run_sums.proofs.figures_at.Reads as figures-at-reads
+use Rattle.run_figures.proofs.figures_at.Reads as figures-at-reads
 
 abbrev Inv-loop : tie.InvT-loop
-Inv-loop draft figures kept out₀ count at₀ k₀ j₀ out at k j = Going draft out₀ out at k × Reading draft kept j k × Weighed draft figures × (count ≡ length draft / 81)
+Inv-loop draft totals figures out₀ count at₀ k₀ j₀ out at k j = Going draft out₀ out at k × Reading draft figures j k × Weighed draft totals × (count ≡ length draft / 81)
 
 abbrev μ-loop : tie.MeasureT-loop
-μ-loop draft figures kept out₀ count at₀ k₀ j₀ out at k j = length draft / 81 - k
+μ-loop draft totals figures out₀ count at₀ k₀ j₀ out at k j = length draft / 81 - k
 
 sub-copy-to : tie.Need-sub-copy-to Inv-loop μ-loop
 sub-copy-to c = search needs

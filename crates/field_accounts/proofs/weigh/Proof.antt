@@ -2,7 +2,7 @@ use mathlib.Core.Path.{_≡_, ap}
 use native.Mathlib.Omega.{arith}
 use Rattle.field_accounts.specs.Accounts.{weights}
 use Rattle.field_accounts.specs.OnTheWay.{weighed}
-use Rattle.field_bytes.proofs.Listed.{places, listed}
+use Rattle.field_bytes.proofs.Listed.{oneByOne, listed}
 use borrow.Author.Needs.{needs}
 use Rattle.field_accounts.proofs.weigh.Statement.{statement}
 use Rattle.field_accounts.proofs.weigh.Tie as tie
@@ -128,7 +128,7 @@ add-result-9 : tie.Need-add-result-9
 add-result-9 c = search needs
 
 returns : tie.Need-returns
-unfolding weighed places
+unfolding weighed oneByOne
 returns c =
     let start = c .before .before .before .before .before .before .before .before .before .before .before .before .before .before .before .before .before .before .before .before .before in
     let l = ap (weighed weights) (listed (start .args .s .now) 11 (start .pre)) in

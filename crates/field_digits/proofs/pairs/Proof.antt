@@ -2,7 +2,7 @@ use mathlib.Core.Path.{_≡_, ap, sym, _∙_}
 use borrow.Author.Tests.{not-true, not-false}
 use borrow.Author.Needs.{needs}
 use Rattle.field_digits.specs.Numbers.{numberOf, paired}
-use Rattle.field_digits.specs.declared.Digits.the-variants.{Number}
+use Rattle.field_digits.specs.declared.DigitPairs.the-variants.{Pairs}
 use Rattle.field_digits.proofs.Ahead.{zero-before}
 use Rattle.field_digits.proofs.Values.{number-yes, number-no}
 use Rattle.field_digits.proofs.pairs.Statement.{statement}
@@ -31,7 +31,7 @@ returns-2 : tie.Need-returns-2
 returns-2 c =
     let a = c .before .before in
     let digits = sym (a .all-digits .ensures) ∙ not-false _ (c .before .if1 .left) in
-    ap Number (c .pairs-in .ensures .1 digits)
+    ap Pairs (c .pairs-in .ensures .1 digits)
     ∙ ap paired (sym (number-yes _ digits) ∙ ap numberOf (a .before .word-of-six .ensures) ∙ zero-before _ ∙ zero-before _)
 
 pub pairs-spec : {M : Type 1} → statement M

@@ -1,5 +1,5 @@
 use Rattle.field_words.proofs.WordBytes.{four}
-use Rattle.field_bytes.proofs.Listed.{places, listed}
+use Rattle.field_bytes.proofs.Listed.{oneByOne, listed}
 use native.Mathlib.Omega.{arith}
 use mathlib.Core.Path.{_≡_, sym, _∙_}
 use borrow.Author.Needs.{needs}
@@ -52,7 +52,7 @@ add-result-3 : tie.Need-add-result-3
 add-result-3 c = search needs
 
 returns : tie.Need-returns
-unfolding places
+unfolding oneByOne
 returns c =
     let start = c .before .before .before .before .before .before .before .before .before in
     let a = c .before .before .before .before .before .before .wide .ensures in

@@ -1,17 +1,18 @@
 -- 19 is looked at last; then the first file without its 89, the second's assignments, and the new 89.
 -- Assumes nothing.
-use mathlib.Core.Path.{sym, ap, _∙_}
+use mathlib.Core.Path.{sym, _∙_}
 use native.Mathlib.Omega.{arith}
 use Prim.Native.Nat.{_-_}
 use lib.ListN.{length, length-take}
+use Rattle.limits.specs.Limits.{recordBytes}
 use Rattle.join_files.proofs.Answers.{was-refused, too-short, first-long, second-long, has-room, wrote}
 use borrow.Author.Needs.{needs}
 use Rattle.join_files.proofs.join.Statement.{statement}
 use Rattle.join_files.proofs.join.Tie as tie
 use Rattle.join_files.proofs.join.Reads as reads
 use Rattle.join_files.proofs.join.Lts as lts
-use Rattle.check_file.proofs.refuse.Reads as refuse-reads
 use Rattle.join_files.proofs.weigh.Reads as weigh-reads
+use Rattle.rules.proofs.Refusal.whole.Reads as whole-reads
 use Rattle.write_file.proofs.put_file.Reads as put-file-reads
 
 weigh-requires : tie.Need-weigh-requires
@@ -29,28 +30,28 @@ cast-if1 c = search needs
 mul-if1 : tie.Need-mul-if1
 mul-if1 c = search needs
 
-refuse-requires : tie.Need-refuse-requires
-refuse-requires c κs = search needs
+whole-requires : tie.Need-whole-requires
+whole-requires c κs = search needs
 
 returns : tie.Need-returns
 returns c =
     let a = c .before .before .before .before .before .before .before .before .before .before .before .args in
-    too-short (a .day) (a .first .now) (a .second .now) (a .out .now) _ (c .before .before .before .before .before .before .before .weigh .ensures) _ (c .before .before .before .before .before .t .given .1) _ (c .refuse .ensures) (omega arith)
+    too-short (a .day) (a .first .now) (a .second .now) (a .out .now) _ (c .before .before .before .before .before .before .before .weigh .ensures) _ (c .before .before .before .before .before .t .given .1) _ (c .whole .ensures) (omega arith)
 
-sub-ours : tie.Need-sub-ours
-sub-ours c =
+sub-first-end : tie.Need-sub-first-end
+sub-first-end c =
     let a = c .before .before .before .before .before .before .before .before .before .before .args in
     omega (arith, first-long (a .day) (a .first .now) (a .second .now) (a .out .now) _ (c .before .before .before .before .before .before .weigh .ensures) _ (c .before .before .before .before .t .given .1) (omega arith))
 
-sub-theirs : tie.Need-sub-theirs
-sub-theirs c =
+sub-second-end : tie.Need-sub-second-end
+sub-second-end c =
     let a = c .before .before .before .before .before .before .before .before .before .before .args in
     omega (arith, second-long (a .day) (a .first .now) (a .second .now) (a .out .now) _ (c .before .before .before .before .before .before .weigh .ensures) _ (c .before .before .before .before .t .given .1) (omega arith))
 
 slice-aggregate-put-file : tie.Need-slice-aggregate-put-file
 slice-aggregate-put-file c =
     let a = c .before .before .before .before .before .before .before .before .before .before .before .before .args in
-    sym (length-take (length (a .first .now) - 81) (a .first .now) ∙ omega (arith, first-long (a .day) (a .first .now) (a .second .now) (a .out .now) _ (c .before .before .before .before .before .before .before .before .weigh .ensures) _ (c .before .before .before .before .before .before .t .given .1) (omega arith)))
+    sym (length-take (length (a .first .now) - recordBytes) (a .first .now) ∙ omega (arith, first-long (a .day) (a .first .now) (a .second .now) (a .out .now) _ (c .before .before .before .before .before .before .before .before .weigh .ensures) _ (c .before .before .before .before .before .before .t .given .1) (omega arith)))
 
 sub-put-file : tie.Need-sub-put-file
 sub-put-file c =
@@ -92,10 +93,10 @@ join-spec =
     enum-known-t
     cast-if1
     mul-if1
-    refuse-requires
+    whole-requires
     returns
-    sub-ours
-    sub-theirs
+    sub-first-end
+    sub-second-end
     slice-aggregate-put-file
     sub-put-file
     part-put-file-start

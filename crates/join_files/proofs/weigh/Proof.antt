@@ -7,10 +7,10 @@ use Rattle.join_files.proofs.weigh.Tie as tie
 use Rattle.join_files.proofs.weigh.Reads as reads
 use Rattle.join_files.proofs.weigh.Lts as lts
 use Rattle.check_file.proofs.judge.Reads as judge-reads
-use Rattle.check_file.proofs.refuse.Reads as refuse-reads
 use Rattle.dates.proofs.ProcessDay.window.Reads as window-reads
-use Rattle.join_files.proofs.of_operand.Reads as of-operand-reads
 use Rattle.join_files.proofs.weigh_second.Reads as weigh-second-reads
+use Rattle.rules.proofs.Refusal.of.Reads as of-reads
+use Rattle.rules.proofs.Refusal.whole.Reads as whole-reads
 
 window-requires : tie.Need-window-requires
 window-requires c κs = search needs
@@ -21,13 +21,13 @@ enum-known-w c = search needs
 enum-told : tie.Need-enum-told
 enum-told c = search needs
 
-refuse-requires : tie.Need-refuse-requires
-refuse-requires c κs = search needs
+whole-requires : tie.Need-whole-requires
+whole-requires c κs = search needs
 
 returns : tie.Need-returns
 returns c =
     let a = c .before .before .before .before .before .before .args in
-    no-day (a .day) (a .first .now) (a .second .now) _ (c .before .before .before .window .ensures) _ (c .refuse .ensures) (c .before .enum-told .given .1)
+    no-day (a .day) (a .first .now) (a .second .now) _ (c .before .before .before .window .ensures) _ (c .whole .ensures) (c .before .enum-told .given .1)
 
 slice-aggregate-judge : tie.Need-slice-aggregate-judge
 slice-aggregate-judge c = search needs
@@ -41,8 +41,8 @@ judge-requires c κs = search needs
 enum-known-refusal : tie.Need-enum-known-refusal
 enum-known-refusal c = search needs
 
-of-operand-requires : tie.Need-of-operand-requires
-of-operand-requires c κs = search needs
+of-requires : tie.Need-of-requires
+of-requires c κs = search needs
 
 enum-known-s : tie.Need-enum-known-s
 enum-known-s c = search needs
@@ -52,13 +52,13 @@ slice-aggregate-weigh-second c = search needs
 
 weigh-second-requires : tie.Need-weigh-second-requires
 weigh-second-requires c κs =
-    let i = c .before .before .before .before .before .before .judge .ensures in
-    (record { day = c .before .before .before .before .before .before .before .before .before .before .before .before .before .before .before .args .day; opened = sym (c .before .before .before .before .before .before .before .before .before .before .before .before .window .ensures) ∙ c .before .before .before .before .before .before .before .before .before .before .w .given .1 }, sym (i .0) ∙ c .before .before .s .given .1, c .before .before .before .before .before .before .judge .kept .1 .1 .0, i .1 .found _ (c .before .before .s .given .1))
+    let j = c .before .before .before .before .before .before .judge in
+    (record { day = c .before .before .before .before .before .before .before .before .before .before .before .before .before .before .before .args .day; opened = sym (c .before .before .before .before .before .before .before .before .before .before .before .before .window .ensures) ∙ c .before .before .before .before .before .before .before .before .before .before .w .given .1 }, sym (j .ensures .0) ∙ c .before .before .s .given .1, j .kept .1 .1 .0, j .ensures .1 .found _ (c .before .before .s .given .1))
 
 returns-2 : tie.Need-returns-2
 returns-2 c =
     let a = c .before .before .before .before .before .before .before .before .before .before .before .before .before .before .before .args in
-    first-refused (a .day) (a .first .now) (a .second .now) _ (c .before .before .before .before .before .before .before .before .before .before .before .before .window .ensures) _ (c .before .before .before .before .before .before .before .before .before .before .w .given .1) _ (c .before .before .before .before .before .before .judge .ensures .0) _ _ (c .of-operand .ensures) (c .before .before .refusal .given .1)
+    first-refused (a .day) (a .first .now) (a .second .now) _ (c .before .before .before .before .before .before .before .before .before .before .before .before .window .ensures) _ (c .before .before .before .before .before .before .before .before .before .before .w .given .1) _ (c .before .before .before .before .before .before .judge .ensures .0) _ _ (c .of .ensures) (c .before .before .refusal .given .1)
 
 returns-3 : tie.Need-returns-3
 returns-3 c =
@@ -72,13 +72,13 @@ weigh-spec =
     window-requires
     enum-known-w
     enum-told
-    refuse-requires
+    whole-requires
     returns
     slice-aggregate-judge
     slice-aggregate-judge-2
     judge-requires
     enum-known-refusal
-    of-operand-requires
+    of-requires
     enum-known-s
     slice-aggregate-weigh-second
     weigh-second-requires

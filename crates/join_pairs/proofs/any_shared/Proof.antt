@@ -5,7 +5,7 @@ use mathlib.Core.Path.{_≡_, refl}
 use mathlib.Core.Bool.{_||_}
 use native.Mathlib.Omega.{arith}
 use borrow.Author.Needs.{needs}
-use lib.ListN.{length, take, drop}
+use lib.ListN.{take, drop}
 use Rattle.operations.specs.Joining.{shares}
 use Rattle.join_pairs.proofs.Shared.{shared-next, shared-end}
 use Rattle.join_pairs.proofs.any_shared.Statement.{statement}
@@ -15,10 +15,10 @@ use Rattle.join_pairs.proofs.any_shared.Lts as lts
 use Rattle.record_10_20.proofs.seen.Reads as seen-reads
 
 abbrev Inv-loop : tie.InvT-loop
-Inv-loop ours used theirs count found₀ i₀ found i = (i ≤ count) × (found || shares (take used ours) (drop i (take count theirs)) ≡ shares (take used ours) (take count theirs))
+Inv-loop ours count theirs others found₀ i₀ found i = (i ≤ others) × (found || shares (take count ours) (drop i (take others theirs)) ≡ shares (take count ours) (take others theirs))
 
 abbrev μ-loop : tie.MeasureT-loop
-μ-loop ours used theirs count found₀ i₀ found i = count - i
+μ-loop ours count theirs others found₀ i₀ found i = others - i
 
 loop-holds : tie.Need-loop-holds Inv-loop μ-loop
 loop-holds c = (omega arith, refl)
@@ -39,10 +39,10 @@ loop-less : tie.Need-loop-less Inv-loop μ-loop
 loop-less c = search needs
 
 loop-again : tie.Need-loop-again Inv-loop μ-loop
-loop-again c = (omega arith, shared-next _ (c .before .before .before .before .before .before .args .theirs .now) (c .before .before .before .before .before .before .args .count) (c .before .before .before .loop .i) _ (c .before .before .before .loop .found) _ (omega arith) (c .before .before .before .before .before .before .pre .1) refl (c .seen .ensures) (c .before .before .before .loop .inv .1))
+loop-again c = (omega arith, shared-next _ (c .before .before .before .before .before .before .args .theirs .now) (c .before .before .before .before .before .before .args .others) (c .before .before .before .loop .i) _ (c .before .before .before .loop .found) _ (omega arith) (c .before .before .before .before .before .before .pre .1) refl (c .seen .ensures) (c .before .before .before .loop .inv .1))
 
 returns : tie.Need-returns Inv-loop μ-loop
-returns c = shared-end _ (c .before .before .before .before .args .theirs .now) (c .before .before .before .before .args .count) (c .before .loop .i) (c .before .loop .found) (omega arith) (c .before .loop .inv .1)
+returns c = shared-end _ (c .before .before .before .before .args .theirs .now) (c .before .before .before .before .args .others) (c .before .loop .i) (c .before .loop .found) (omega arith) (c .before .loop .inv .1)
 
 pub any-shared-spec : {M : Type 1} → statement M
 any-shared-spec =

@@ -2,6 +2,7 @@
 -- Assumes nothing.
 use mathlib.Core.Path.{sym, subst}
 use native.Mathlib.Omega.{arith}
+use Rattle.limits.specs.Limits.{mostRecords}
 use Rattle.run_growth.specs.Bounds.{Bounded}
 use Rattle.part_divide.proofs.Halves.{cut-here, front-long, first-short, second-short, first-room, second-room, parts}
 use borrow.Author.Needs.{needs}
@@ -9,10 +10,10 @@ use Rattle.part_divide.proofs.divide.Statement.{statement}
 use Rattle.part_divide.proofs.divide.Tie as tie
 use Rattle.part_divide.proofs.divide.Reads as reads
 use Rattle.part_divide.proofs.divide.Lts as lts
-use Rattle.part_divide.proofs.refuse.Reads as refuse-reads
 use Rattle.part_divide.proofs.with_ends.Reads as with-ends-reads
 use Rattle.part_divide.proofs.with_head.Reads as with-head-reads
-use Rattle.run_sums.proofs.sum_of.Reads as sum-of-reads
+use Rattle.rules.proofs.Refusal.whole.Reads as whole-reads
+use Rattle.run_figures.proofs.sum_of.Reads as sum-of-reads
 use Rattle.write_file.proofs.put_file.Reads as put-file-reads
 
 add-sum-of : tie.Need-add-sum-of
@@ -27,32 +28,38 @@ cast-at c = search needs
 mul-at : tie.Need-mul-at
 mul-at c = search needs
 
-add-if1 : tie.Need-add-if1
-add-if1 c = search needs
+mul-first-size : tie.Need-mul-first-size
+mul-first-size c = search needs
 
-refuse-requires : tie.Need-refuse-requires
-refuse-requires c κs = search needs
+add-first-size : tie.Need-add-first-size
+add-first-size c = search needs
+
+sub-second-size : tie.Need-sub-second-size
+sub-second-size c =
+    let f = cut-here _ _ _ _ _ (c .before .before .before .before .before .before .before .before .pre) _ (c .before .before .sum-of .ensures) in
+    omega (arith, f .1)
+
+mul-second-size : tie.Need-mul-second-size
+mul-second-size c = search needs
+
+add-second-size : tie.Need-add-second-size
+add-second-size c = search needs
+
+whole-requires : tie.Need-whole-requires
+whole-requires c κs = search needs
 
 returns : tie.Need-returns
 returns c =
     let f = cut-here _ _ _ _ _ (c .before .before .before .before .before .before .before .before .before .before .pre) _ (c .before .before .before .before .sum-of .ensures) in
-    first-short _ _ _ _ _ (c .before .before .before .before .before .before .before .before .before .before .pre) _ (f .0) (f .1) _ _ _ (c .refuse .ensures) (omega arith)
+    first-short _ _ _ _ _ (c .before .before .before .before .before .before .before .before .before .before .pre) _ (f .0) (f .1) _ _ _ (c .whole .ensures) (omega arith)
 
-sub-if2 : tie.Need-sub-if2
-sub-if2 c =
-    let f = cut-here _ _ _ _ _ (c .before .before .before .before .before .before .before .before .before .pre) _ (c .before .before .before .sum-of .ensures) in
-    omega (arith, f .1)
-
-add-if2 : tie.Need-add-if2
-add-if2 c = search needs
-
-refuse-requires-2 : tie.Need-refuse-requires-2
-refuse-requires-2 c κs = search needs
+whole-requires-2 : tie.Need-whole-requires-2
+whole-requires-2 c κs = search needs
 
 returns-2 : tie.Need-returns-2
 returns-2 c =
     let f = cut-here _ _ _ _ _ (c .before .before .before .before .before .before .before .before .before .before .before .pre) _ (c .before .before .before .before .before .sum-of .ensures) in
-    second-short _ _ _ _ _ (c .before .before .before .before .before .before .before .before .before .before .before .pre) _ (f .0) (f .1) _ _ _ (c .refuse2 .ensures) (omega arith)
+    second-short _ _ _ _ _ (c .before .before .before .before .before .before .before .before .before .before .before .pre) _ (f .0) (f .1) _ _ _ (c .whole2 .ensures) (omega arith)
 
 add-sum-of-2 : tie.Need-add-sum-of-2
 add-sum-of-2 c = search needs
@@ -69,7 +76,7 @@ slice-aggregate-put-file c =
     sym (front-long _ _ _ _ _ (c .before .before .before .before .before .before .before .before .before .before .before .before .before .pre) _ (f .0) (f .1))
 
 with-ends-requires : tie.Need-with-ends-requires
-with-ends-requires c κs = subst (Bounded 200000) (sym (c .before .before .before .before .before .before .before .sum-of .ensures)) (c .before .before .before .before .before .before .before .before .before .before .before .before .before .pre .shares .first-summable .bounded)
+with-ends-requires c κs = subst (Bounded mostRecords) (sym (c .before .before .before .before .before .before .before .sum-of .ensures)) (c .before .before .before .before .before .before .before .before .before .before .before .before .before .pre .sums .first-summable .bounded)
 
 put-file-requires : tie.Need-put-file-requires
 put-file-requires c κs =
@@ -91,7 +98,7 @@ part-put-file-end : tie.Need-part-put-file-end
 part-put-file-end c = search needs
 
 with-head-requires : tie.Need-with-head-requires
-with-head-requires c κs = subst (Bounded 200000) (sym (c .before .before .before .before .before .before .before .before .sum-of2 .ensures)) (c .before .before .before .before .before .before .before .before .before .before .before .before .before .before .before .before .before .before .before .pre .shares .others-summable .bounded)
+with-head-requires c κs = subst (Bounded mostRecords) (sym (c .before .before .before .before .before .before .before .before .sum-of2 .ensures)) (c .before .before .before .before .before .before .before .before .before .before .before .before .before .before .before .before .before .before .before .pre .sums .others-summable .bounded)
 
 put-file-requires-2 : tie.Need-put-file-requires-2
 put-file-requires-2 c κs =
@@ -118,12 +125,14 @@ divide-spec =
     sum-of-requires
     cast-at
     mul-at
-    add-if1
-    refuse-requires
+    mul-first-size
+    add-first-size
+    sub-second-size
+    mul-second-size
+    add-second-size
+    whole-requires
     returns
-    sub-if2
-    add-if2
-    refuse-requires-2
+    whole-requires-2
     returns-2
     add-sum-of-2
     add-sum-of-3

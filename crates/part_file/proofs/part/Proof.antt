@@ -2,9 +2,10 @@
 -- Assumes nothing.
 use mathlib.Core.Path.{refl, sym, _∙_}
 use native.Mathlib.Omega.{arith}
-use Rattle.run_sums.proofs.Held.{roomy}
+use borrow.Author.Tests.{not-true, not-false}
+use Rattle.run_figures.proofs.Held.{roomy}
 use Rattle.laws.proofs.Slices.{long-enough}
-use Rattle.part_file.proofs.Answers.{was-refused, below, above, parts, divisible}
+use Rattle.part_file.proofs.Answers.{divisible, has-boundary, was-refused, outside, parts}
 use borrow.Author.Needs.{needs}
 use Rattle.part_file.proofs.part.Statement.{statement}
 use Rattle.part_file.proofs.part.Tie as tie
@@ -12,7 +13,7 @@ use Rattle.part_file.proofs.part.Reads as reads
 use Rattle.part_file.proofs.part.Lts as lts
 use Rattle.check_file.proofs.check_into.Reads as check-into-reads
 use Rattle.part_divide.proofs.divide.Reads as divide-reads
-use Rattle.part_divide.proofs.refuse.Reads as refuse-reads
+use Rattle.part_file.proofs.is_boundary.Reads as is-boundary-reads
 
 slice-aggregate-check-into : tie.Need-slice-aggregate-check-into
 slice-aggregate-check-into c = search needs
@@ -29,30 +30,21 @@ enum-known-refusal c = search needs
 enum-known-t : tie.Need-enum-known-t
 enum-known-t c = search needs
 
-refuse-requires : tie.Need-refuse-requires
-refuse-requires c κs = search needs
+is-boundary-requires : tie.Need-is-boundary-requires
+is-boundary-requires c κs = search needs
 
 returns : tie.Need-returns
 returns c =
     let a = c .before .before .before .before .before .before .before .before .before .before .before .before .before .before .args in
-    below (a .day) (a .file .now) (a .k) (a .first .now) (a .second .now) _ (c .before .before .before .before .before .before .before .before .check-into .ensures .0) _ (c .before .before .before .before .t .given .1) _ (c .refuse .ensures) (c .before .if1 .taken)
-
-cast-if2 : tie.Need-cast-if2
-cast-if2 c = search needs
-
-refuse-requires-2 : tie.Need-refuse-requires-2
-refuse-requires-2 c κs = search needs
-
-returns-2 : tie.Need-returns-2
-returns-2 c =
-    let a = c .before .before .before .before .before .before .before .before .before .before .before .before .before .before .before .before .args in
-    above (a .day) (a .file .now) (a .k) (a .first .now) (a .second .now) _ (c .before .before .before .before .before .before .before .before .before .before .check-into .ensures .0) _ (c .before .before .before .before .before .before .t .given .1) _ (c .refuse2 .ensures) (omega arith)
+    outside (a .day) (a .file .now) (a .k) (a .first .now) (a .second .now) _ (c .before .before .before .before .before .before .before .before .check-into .ensures .0) _ (c .before .before .before .before .t .given .1) _ (c .before .is-boundary .ensures) (not-true _ (c .if1 .taken))
 
 cast-all : tie.Need-cast-all
 cast-all c = search needs
 
 sub-end : tie.Need-sub-end
-sub-end c = omega (arith, long-enough (c .before .before .before .before .before .before .before .before .before .before .before .before .before .before .before .before .args .day) (c .before .before .before .before .before .before .before .before .before .before .before .before .before .before .before .before .args .file .now) _ (sym (c .before .before .before .before .before .before .before .before .before .before .check-into .ensures .0) ∙ c .before .before .before .before .before .before .t .given .1))
+sub-end c =
+    let a = c .before .before .before .before .before .before .before .before .before .before .before .before .before .before .before .args in
+    omega (arith, long-enough (a .day) (a .file .now) _ (sym (c .before .before .before .before .before .before .before .before .before .check-into .ensures .0) ∙ c .before .before .before .before .before .t .given .1))
 
 sub-divide : tie.Need-sub-divide
 sub-divide c = search needs
@@ -61,13 +53,19 @@ part-divide-start : tie.Need-part-divide-start
 part-divide-start c = search needs
 
 part-divide-end : tie.Need-part-divide-end
-part-divide-end c = omega (arith, long-enough (c .before .before .before .before .before .before .before .before .before .before .before .before .before .before .before .before .args .day) (c .before .before .before .before .before .before .before .before .before .before .before .before .before .before .before .before .args .file .now) _ (sym (c .before .before .before .before .before .before .before .before .before .before .check-into .ensures .0) ∙ c .before .before .before .before .before .before .t .given .1))
+part-divide-end c =
+    let a = c .before .before .before .before .before .before .before .before .before .before .before .before .before .before .before .args in
+    omega (arith, long-enough (a .day) (a .file .now) _ (sym (c .before .before .before .before .before .before .before .before .before .check-into .ensures .0) ∙ c .before .before .before .before .before .t .given .1))
 
 sub-divide-2 : tie.Need-sub-divide-2
-sub-divide-2 c = omega (arith, long-enough (c .before .before .before .before .before .before .before .before .before .before .before .before .before .before .before .before .before .args .day) (c .before .before .before .before .before .before .before .before .before .before .before .before .before .before .before .before .before .args .file .now) _ (sym (c .before .before .before .before .before .before .before .before .before .before .before .check-into .ensures .0) ∙ c .before .before .before .before .before .before .before .t .given .1))
+sub-divide-2 c =
+    let a = c .before .before .before .before .before .before .before .before .before .before .before .before .before .before .before .before .args in
+    omega (arith, long-enough (a .day) (a .file .now) _ (sym (c .before .before .before .before .before .before .before .before .before .before .check-into .ensures .0) ∙ c .before .before .before .before .before .before .t .given .1))
 
 part-divide-start-2 : tie.Need-part-divide-start-2
-part-divide-start-2 c = omega (arith, long-enough (c .before .before .before .before .before .before .before .before .before .before .before .before .before .before .before .before .before .args .day) (c .before .before .before .before .before .before .before .before .before .before .before .before .before .before .before .before .before .args .file .now) _ (sym (c .before .before .before .before .before .before .before .before .before .before .before .check-into .ensures .0) ∙ c .before .before .before .before .before .before .before .t .given .1))
+part-divide-start-2 c =
+    let a = c .before .before .before .before .before .before .before .before .before .before .before .before .before .before .before .before .args in
+    omega (arith, long-enough (a .day) (a .file .now) _ (sym (c .before .before .before .before .before .before .before .before .before .before .check-into .ensures .0) ∙ c .before .before .before .before .before .before .t .given .1))
 
 part-divide-end-2 : tie.Need-part-divide-end-2
 part-divide-end-2 c = search needs
@@ -77,12 +75,12 @@ slice-aggregate-divide c = search needs
 
 divide-requires : tie.Need-divide-requires
 divide-requires c κs =
-    let a = c .before .before .before .before .before .before .before .before .before .before .before .before .before .before .before .before .before .before .before .before .before .args in
-    let e = c .before .before .before .before .before .before .before .before .before .before .before .before .before .before .before .check-into .ensures in
-    divisible (a .day) (a .file .now) _ (sym (e .0) ∙ c .before .before .before .before .before .before .before .before .before .before .before .t .given .1) _ _ _ (c .before .before .before .before .before .before .before .before .before .before .before .t .given .1) (e .1) (roomy _ _ (c .before .before .before .before .before .before .before .before .before .before .before .before .before .before .before .check-into .kept .1 .1 .1 .0) refl) (a .k) (c .before .before .before .before .before .before .before .before .if1 .left) (omega arith)
+    let a = c .before .before .before .before .before .before .before .before .before .before .before .before .before .before .before .before .before .before .before .before .args in
+    let e = c .before .before .before .before .before .before .before .before .before .before .before .before .before .before .check-into in
+    divisible (a .day) (a .file .now) _ (sym (c .before .before .before .before .before .before .before .before .before .before .before .before .before .before .check-into .ensures .0) ∙ c .before .before .before .before .before .before .before .before .before .before .t .given .1) _ _ _ (c .before .before .before .before .before .before .before .before .before .before .t .given .1) (e .ensures .1) (roomy _ _ (e .kept .1 .1 .1 .0) refl) (a .k) (has-boundary _ _ _ (c .before .before .before .before .before .before .before .is-boundary .ensures) (not-false _ (c .before .before .before .before .before .before .if1 .left)))
 
-returns-3 : tie.Need-returns-3
-returns-3 c =
+returns-2 : tie.Need-returns-2
+returns-2 c =
     let a = c .before .before .before .before .before .before .before .before .before .before .before .args in
     was-refused (a .day) (a .file .now) (a .k) (a .first .now) (a .second .now) _ (c .before .before .before .before .before .check-into .ensures .0) _ (c .before .refusal .given .1)
 
@@ -92,11 +90,11 @@ same-length c = search needs
 same-length-2 : tie.Need-same-length-2
 same-length-2 c = search needs
 
-returns-4 : tie.Need-returns-4
-returns-4 c =
-    let a = c .before .before .before .before .before .before .before .before .before .before .before .before .before .before .before .before .before .before .before .before .before .before .before .before .before .before .args in
+returns-3 : tie.Need-returns-3
+returns-3 c =
+    let a = c .before .before .before .before .before .before .before .before .before .before .before .before .before .before .before .before .before .before .before .before .before .before .before .before .before .args in
     let d = c .before .before .before .before .divide .ensures in
-    parts (a .day) (a .file .now) (a .k) (a .first .now) (a .second .now) _ (c .before .before .before .before .before .before .before .before .before .before .before .before .before .before .before .before .before .before .before .before .check-into .ensures .0) _ (c .before .before .before .before .before .before .before .before .before .before .before .before .before .before .before .before .t .given .1) (c .before .before .before .before .before .before .before .before .before .before .before .before .before .if1 .left) (omega arith) _ _ _ (d .0) (d .1) (d .2)
+    parts (a .day) (a .file .now) (a .k) (a .first .now) (a .second .now) _ (c .before .before .before .before .before .before .before .before .before .before .before .before .before .before .before .before .before .before .before .check-into .ensures .0) _ (c .before .before .before .before .before .before .before .before .before .before .before .before .before .before .before .t .given .1) _ (c .before .before .before .before .before .before .before .before .before .before .before .before .is-boundary .ensures) (not-false _ (c .before .before .before .before .before .before .before .before .before .before .before .if1 .left)) _ _ _ (d .0) (d .1) (d .2)
 
 pub part-spec : {M : Type 1} → statement M
 part-spec =
@@ -107,11 +105,8 @@ part-spec =
     check-into-requires
     enum-known-refusal
     enum-known-t
-    refuse-requires
+    is-boundary-requires
     returns
-    cast-if2
-    refuse-requires-2
-    returns-2
     cast-all
     sub-end
     sub-divide
@@ -122,7 +117,7 @@ part-spec =
     part-divide-end-2
     slice-aggregate-divide
     divide-requires
-    returns-3
+    returns-2
     same-length
     same-length-2
-    returns-4)
+    returns-3)

@@ -5,7 +5,7 @@ use Rattle.pay.proofs.close.Tie as tie
 use Rattle.pay.proofs.close.Reads as reads
 use Rattle.pay.proofs.close.Lts as lts
 use Rattle.tool_outputs.proofs.close.Reads as close-reads
-use Rattle.tool_command.proofs.asked.day.Reads as day-reads
+use Rattle.tool_command.proofs.day.Reads as day-reads
 use Rattle.pay.proofs.keep.Reads as keep-reads
 use Rattle.tool_explain.proofs.answers.tell_refused.Reads as tell-refused-reads
 

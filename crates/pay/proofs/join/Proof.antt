@@ -5,7 +5,7 @@ use Rattle.pay.proofs.join.Tie as tie
 use Rattle.pay.proofs.join.Reads as reads
 use Rattle.pay.proofs.join.Lts as lts
 use Rattle.tool_outputs.proofs.join.Reads as join-reads
-use Rattle.tool_command.proofs.asked.day.Reads as day-reads
+use Rattle.tool_command.proofs.day.Reads as day-reads
 use Rattle.pay.proofs.keep.Reads as keep-reads
 use Rattle.tool_explain.proofs.answers.tell_which.Reads as tell-which-reads
 

@@ -4,11 +4,12 @@ use Rattle.pay.proofs.part.Statement.{statement}
 use Rattle.pay.proofs.part.Tie as tie
 use Rattle.pay.proofs.part.Reads as reads
 use Rattle.pay.proofs.part.Lts as lts
-use Rattle.tool_outputs.proofs.part.Reads as part-reads
-use Rattle.tool_command.proofs.asked.boundary.Reads as boundary-reads
-use Rattle.tool_command.proofs.asked.day.Reads as day-reads
 use Rattle.pay.proofs.keep_parts.Reads as keep-parts-reads
-use Rattle.pay.proofs.tell_not_parted.Reads as tell-not-parted-reads
+use Rattle.pay.proofs.tell_boundaries.Reads as tell-boundaries-reads
+use Rattle.tool_command.proofs.boundary.Reads as boundary-reads
+use Rattle.tool_command.proofs.day.Reads as day-reads
+use Rattle.tool_explain.proofs.answers.tell_refused.Reads as tell-refused-reads
+use Rattle.tool_outputs.proofs.part.Reads as part-reads
 
 day-requires : tie.Need-day-requires
 day-requires c κs = search needs
@@ -22,8 +23,14 @@ part-requires c κs = search needs
 enum-known-x : tie.Need-enum-known-x
 enum-known-x c = search needs
 
-tell-not-parted-requires : tie.Need-tell-not-parted-requires
-tell-not-parted-requires c κs = search needs
+tell-refused-requires : tie.Need-tell-refused-requires
+tell-refused-requires c κs = search needs
+
+enum-known-assignments : tie.Need-enum-known-assignments
+enum-known-assignments c = search needs
+
+tell-boundaries-requires : tie.Need-tell-boundaries-requires
+tell-boundaries-requires c κs = search needs
 
 enum-known-a : tie.Need-enum-known-a
 enum-known-a c = search needs
@@ -61,6 +68,15 @@ same-length-4 c = search needs
 returns-2 : tie.Need-returns-2
 returns-2 c = search needs
 
+same-length-5 : tie.Need-same-length-5
+same-length-5 c = search needs
+
+same-length-6 : tie.Need-same-length-6
+same-length-6 c = search needs
+
+returns-3 : tie.Need-returns-3
+returns-3 c = search needs
+
 pub part-spec : {M : Type 1} → statement M
 part-spec =
     tie.close
@@ -69,7 +85,9 @@ part-spec =
     boundary-requires
     part-requires
     enum-known-x
-    tell-not-parted-requires
+    tell-refused-requires
+    enum-known-assignments
+    tell-boundaries-requires
     enum-known-a
     slice-reshare-prefix-keep-parts
     slice-aggregate-keep-parts
@@ -81,4 +99,7 @@ part-spec =
     returns
     same-length-3
     same-length-4
-    returns-2)
+    returns-2
+    same-length-5
+    same-length-6
+    returns-3)

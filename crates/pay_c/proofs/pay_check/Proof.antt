@@ -1,5 +1,6 @@
+-- Assumes nothing.
 use mathlib.Core.Path.{ap, _∙_}
-use Rattle.pay_c.specs.Answers.{numbers}
+use Rattle.operations.specs.Answers.{numbers}
 use borrow.Author.Needs.{needs}
 use Rattle.pay_c.proofs.pay_check.Statement.{statement}
 use Rattle.pay_c.proofs.pay_check.Tie as tie
@@ -15,7 +16,9 @@ tell-requires : tie.Need-tell-requires
 tell-requires c κs = search needs
 
 returns : tie.Need-returns
-returns c = c .tell .ensures ∙ ap numbers (c .before .before .check .ensures)
+returns c =
+    let x = c .before .before .check .ensures in
+    record { answers = c .tell .ensures ∙ ap numbers (x .answers) }
 
 pub pay-check-spec : {M : Type 1} → statement M
 pay-check-spec = tie.close (tie.spec check-requires tell-requires returns)

@@ -1,5 +1,6 @@
+-- Assumes nothing.
 use mathlib.Core.Path.{ap, _∙_}
-use Rattle.pay_c.specs.Answers.{numbers}
+use Rattle.operations.specs.Answers.{numbers}
 use borrow.Author.Needs.{needs}
 use Rattle.pay_c.proofs.pay_close.Statement.{statement}
 use Rattle.pay_c.proofs.pay_close.Tie as tie
@@ -18,7 +19,9 @@ same-length : tie.Need-same-length
 same-length c = search needs
 
 returns : tie.Need-returns
-returns c = (c .tell .ensures ∙ ap numbers (c .before .before .before .before .close .ensures .0), c .before .before .before .before .close .ensures .1)
+returns c =
+    let x = c .before .before .before .before .close .ensures in
+    record { answers = c .tell .ensures ∙ ap numbers (x .answers); leaves = x .leaves }
 
 pub pay-close-spec : {M : Type 1} → statement M
 pay-close-spec = tie.close (tie.spec close-requires tell-requires same-length returns)

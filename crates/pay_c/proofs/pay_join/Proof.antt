@@ -1,5 +1,6 @@
+-- Assumes nothing.
 use mathlib.Core.Path.{ap, _∙_}
-use Rattle.pay_c.specs.Answers.{numbers}
+use Rattle.operations.specs.Answers.{numbers}
 use borrow.Author.Needs.{needs}
 use Rattle.pay_c.proofs.pay_join.Statement.{statement}
 use Rattle.pay_c.proofs.pay_join.Tie as tie
@@ -18,7 +19,9 @@ same-length : tie.Need-same-length
 same-length c = search needs
 
 returns : tie.Need-returns
-returns c = (c .tell .ensures ∙ ap numbers (c .before .before .before .before .join .ensures .0), c .before .before .before .before .join .ensures .1)
+returns c =
+    let x = c .before .before .before .before .join .ensures in
+    record { answers = c .tell .ensures ∙ ap numbers (x .answers); leaves = x .leaves }
 
 pub pay-join-spec : {M : Type 1} → statement M
 pay-join-spec = tie.close (tie.spec join-requires tell-requires same-length returns)

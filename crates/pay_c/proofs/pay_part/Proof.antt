@@ -1,5 +1,6 @@
+-- Assumes nothing.
 use mathlib.Core.Path.{ap, _∙_}
-use Rattle.pay_c.specs.Answers.{partedNumbers}
+use Rattle.operations.specs.Answers.{partedNumbers}
 use borrow.Author.Needs.{needs}
 use Rattle.pay_c.proofs.pay_part.Statement.{statement}
 use Rattle.pay_c.proofs.pay_part.Tie as tie
@@ -21,7 +22,9 @@ same-length-2 : tie.Need-same-length-2
 same-length-2 c = search needs
 
 returns : tie.Need-returns
-returns c = (c .tell-parting .ensures ∙ ap partedNumbers (c .before .before .before .before .before .before .part .ensures .0), c .before .before .before .before .before .before .part .ensures .1, c .before .before .before .before .before .before .part .ensures .2)
+returns c =
+    let x = c .before .before .before .before .before .before .part .ensures in
+    record { answers = c .tell-parting .ensures ∙ ap partedNumbers (x .answers); leaves-first = x .leaves-first; leaves-second = x .leaves-second }
 
 pub pay-part-spec : {M : Type 1} → statement M
 pay-part-spec =

@@ -1,4 +1,5 @@
-use Rattle.pay_c.specs.Answers.{numbers}
+-- Assumes nothing.
+use Rattle.operations.specs.Answers.{numbers}
 use borrow.Author.Needs.{needs}
 use Rattle.pay_c.proofs.tell.Statement.{statement}
 use Rattle.pay_c.proofs.tell.Tie as tie

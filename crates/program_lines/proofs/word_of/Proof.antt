@@ -1,4 +1,4 @@
-use Rattle.program_lines.specs.Words.{wordFor}
+use Rattle.program_lines.specs.Answers.{wordFor}
 use mathlib.Core.Path.{sym, ap}
 use borrow.Author.Needs.{needs}
 use Rattle.program_lines.proofs.word_of.Statement.{statement}

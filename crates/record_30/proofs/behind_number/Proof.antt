@@ -3,16 +3,14 @@
 use mathlib.Core.Path.{refl, sym, _∙_}
 use mathlib.Core.List.{List, _++_}
 use Rattle.layout.specs.Rows.{Row}
-use Rattle.layout.proofs.Laws.{ends-here, goes-on}
-use Rattle.rules.specs.Layouts.{date30, party30, amount30}
-use Rattle.record_30.specs.Paid.{tail30}
-use Rattle.record_30.proofs.Stages.{no-value}
+use Rattle.layout.proofs.Laws.{no-value, ends-here, goes-on}
+use Rattle.rules.specs.Layouts.{date30, party30, amount30, tail30}
 use borrow.Author.Needs.{needs}
 use Rattle.record_30.proofs.behind_number.Statement.{statement}
 use Rattle.record_30.proofs.behind_number.Tie as tie
 use Rattle.record_30.proofs.behind_number.Reads as reads
 use Rattle.record_30.proofs.behind_number.Lts as lts
-use Rattle.record_shared.proofs.code_for.Reads as code-for-reads
+use Rattle.services.proofs.code_for.Reads as code-for-reads
 use Rattle.record_30_values.proofs.amount.Reads as amount-reads
 use Rattle.record_30_values.proofs.date.Reads as date-reads
 use Rattle.record_30_fields.proofs.party.Reads as party-reads

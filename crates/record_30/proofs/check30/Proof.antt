@@ -2,19 +2,17 @@
 -- Assumes nothing.
 use Prim.Native.Nat.{ℕ}
 use mathlib.Core.Path.{_≡_, sym, _∙_}
-use mathlib.Core.List.{List, [], _∷_, _++_}
+use mathlib.Core.List.{List, [], _++_}
 use borrow.Author.Tests.{eqb-true}
 use Rattle.figures.specs.declared.totals.Totals.{Totals}
-use Rattle.layout.specs.Rows.{Row, at, firstFault, AllHold}
+use Rattle.layout.specs.Rows.{Row, firstFault, AllHold}
 use Rattle.layout.specs.declared.Finding.the-variants.{Sound}
-use Rattle.layout.proofs.Laws.{ends-here, goes-on, all-of-sound}
+use Rattle.layout.proofs.Laws.{no-value, ends-here, goes-on, all-of-sound}
 use Rattle.services.specs.Services.{codeFor}
 use Rattle.rules.specs.Codes.{serviceCode}
 use Rattle.rules.specs.declared.Assignment.{Assignment}
-use Rattle.rules.specs.Payments.{typeListed}
-use Rattle.rules.specs.Layouts.{groupGives, belongs, number30}
+use Rattle.rules.specs.Layouts.{head30, number30}
 use Rattle.record_30.specs.Paid.{rest30}
-use Rattle.record_30.proofs.Stages.{no-value}
 use borrow.Author.Needs.{needs}
 use Rattle.record_30.proofs.check30.Statement.{statement}
 use Rattle.record_30.proofs.check30.Tie as tie
@@ -26,10 +24,10 @@ use Rattle.record_30_values.proofs.number.Reads as number-reads
 use Rattle.record_30.proofs.wrong.Reads as wrong-reads
 
 -- a record whose first fields are sound is of the assignment's service
-own-service : (f : Totals) (ks r : List ℕ) (a : Assignment) → firstFault f ks r ((groupGives a ∷ belongs a r) ++ (at 3 5 6 (typeListed (serviceCode r)) ∷ [])) ≡ Sound
+own-service : (f : Totals) (ks r : List ℕ) (a : Assignment) → firstFault f ks r (head30 a r) ≡ Sound
     → serviceCode r ≡ codeFor (a .service)
 unfolding AllHold
-own-service f ks r a e = eqb-true (serviceCode r) (codeFor (a .service)) (all-of-sound f ks r ((groupGives a ∷ belongs a r) ++ (at 3 5 6 (typeListed (serviceCode r)) ∷ [])) e .1 .1 .0)
+own-service f ks r a e = eqb-true (serviceCode r) (codeFor (a .service)) (all-of-sound f ks r (head30 a r) e .1 .1 .0)
 
 head-requires : tie.Need-head-requires
 head-requires c κs = search needs
@@ -45,7 +43,7 @@ returns c = λ ks.
     let a = c .before .before .before .before .before .before .args in
     let r = a .r .now in
     let f = a .file in
-    let heads : List Row = (groupGives (a .a) ∷ belongs (a .a) r) ++ (at 3 5 6 (typeListed (serviceCode r)) ∷ []) in
+    let heads : List Row = head30 (a .a) r in
     let rest = rest30 (a .w) (a .a) r in
     let numbers : List Row = number30 (a .a) r ++ rest in
     let e = c .wrong .ensures in
@@ -74,7 +72,7 @@ returns-2 c = λ ks.
     let a = c .before .before .before .before .before .before .before .before .before .args in
     let r = a .r .now in
     let f = a .file in
-    let heads : List Row = (groupGives (a .a) ∷ belongs (a .a) r) ++ (at 3 5 6 (typeListed (serviceCode r)) ∷ []) in
+    let heads : List Row = head30 (a .a) r in
     let rest = rest30 (a .w) (a .a) r in
     let numbers : List Row = number30 (a .a) r ++ rest in
     let n = c .before .before .before .before in
@@ -107,7 +105,7 @@ returns-3 c = λ ks.
     let a = c .before .before .before .before .before .before .before .before .args in
     let r = a .r .now in
     let f = a .file in
-    let heads : List Row = (groupGives (a .a) ∷ belongs (a .a) r) ++ (at 3 5 6 (typeListed (serviceCode r)) ∷ []) in
+    let heads : List Row = head30 (a .a) r in
     let rest = rest30 (a .w) (a .a) r in
     let numbers : List Row = number30 (a .a) r ++ rest in
     let n = c .before .before .before in

@@ -10,7 +10,7 @@ use Rattle.layout.specs.Rows.{firstFault}
 use Rattle.layout.specs.declared.Finding.{Finding}
 use Rattle.layout.specs.declared.Finding.the-variants.{Sound}
 use Rattle.layout.proofs.Laws.{demands}
-use Rattle.record_30.specs.Paid.{tail30}
+use Rattle.rules.specs.Layouts.{tail30}
 use borrow.Author.Needs.{needs}
 use Rattle.record_30.proofs.tail.Statement.{statement}
 use Rattle.record_30.proofs.tail.Tie as tie

@@ -1,51 +1,51 @@
--- Field 7: a right account, or row by row; what excuses a wrong account is tested in another order than it is defined.
+-- Field 7: a right account, a reference, or digits of any sort; else the account's answer decides.
 -- Assumes nothing.
 use Prim.Native.Nat.{ℕ}
 use mathlib.Core.Path.{_≡_, ap, ap₂, sym, _∙_}
-use mathlib.Core.Bool.{Bool, true, false, not, _&&_, _||_}
-use mathlib.Core.List.{List}
+use mathlib.Core.Bool.{Bool, not, _&&_}
 use lib.Dec.{eqb}
+use Rattle.fields.specs.Bytes.{part}
+use Rattle.fields.specs.Accounts.{Account, accountOf, isNumber}
+use Rattle.layout.specs.Findings.{accountFound}
+use Rattle.rules.specs.Codes.{typeCode}
+use Rattle.record_30_fields.proofs.Accounts.{right-sound, reference-sound, type-sound, account-decides}
 use borrow.Author.Needs.{needs}
-use Rattle.fields.specs.Bytes.{every, isDigit, part}
-use Rattle.fields.specs.Accounts.{accountOf, isRight}
-use Rattle.fields.specs.Kids.{isReference}
-use Rattle.figures.specs.declared.totals.Totals.{Totals}
-use Rattle.layout.specs.Findings.{demanded}
-use Rattle.layout.specs.Rows.{firstFault}
-use Rattle.layout.specs.declared.Finding.the-variants.{Sound}
-use Rattle.layout.proofs.Laws.{demands}
-use Rattle.rules.specs.Codes.{serviceCode, typeCode}
-use Rattle.rules.specs.Payments.{partyForm, partyRight}
-use Rattle.rules.specs.Layouts.{party30}
-use Rattle.record_30_fields.proofs.Accounts.{excused, number-in-account, right-digits}
 use Rattle.record_30_fields.proofs.party.Statement.{statement}
 use Rattle.record_30_fields.proofs.party.Tie as tie
+use Rattle.record_30_fields.proofs.party.Reads as reads
+use Rattle.record_30_fields.proofs.party.Lts as lts
+use Rattle.fields.proofs.account_at.Reads as account-at-reads
+use Rattle.fields.proofs.code_at.Reads as code-at-reads
+use Rattle.fields.proofs.right_account_at.Reads as right-account-at-reads
+use Rattle.layout.proofs.account_found.Reads as account-found-reads
+use Rattle.record_30_fields.proofs.is_number.Reads as is-number-reads
+use Rattle.record_30_fields.proofs.referred.Reads as referred-reads
 
--- the two rows as the code tests them, once it is told whether the account is right
-as-code : (f : Totals) (ks r : List ℕ) (right : Bool)
-    → isRight (accountOf (part 22 32 r)) ≡ right
-    → firstFault f ks r (party30 r)
-    ≡ demanded (demanded Sound (every isDigit (part 22 32 r) || eqb (serviceCode r) 1 && isReference (part 22 32 r)) 8 7)
-    (right || (eqb (serviceCode r) 1 && isReference (part 22 32 r) || not (eqb (serviceCode r) 1) && eqb (typeCode r) 4)) 11 7
-unfolding partyForm partyRight
-as-code f ks r right h =
-    demands f ks r (party30 r)
-    ∙ ap₂ (λ (x y : Bool). demanded (demanded Sound (every isDigit (part 22 32 r) || eqb (serviceCode r) 1 && isReference (part 22 32 r)) 8 7) (x || y) 11 7)
-    h (sym (excused (eqb (serviceCode r) 1) (isReference (part 22 32 r)) (eqb (typeCode r) 4)))
-
-right-sound : (f : Totals) (ks r : List ℕ) → isRight (accountOf (part 22 32 r)) ≡ true → firstFault f ks r (party30 r) ≡ Sound
-right-sound f ks r h =
-    as-code f ks r true h
-    ∙ ap (λ (x : Bool). demanded (demanded Sound (x || eqb (serviceCode r) 1 && isReference (part 22 32 r)) 8 7) true 11 7)
-    (right-digits (part 22 32 r) h)
+-- the third test, as the code makes it and as the rows have it
+excused : (p : tie.After-is-number)
+    → let s = p .before .before .before .before .before .before .before .before in
+    (not (eqb (s .args .service) 1) && eqb (p .before .code-at .result) 4 && p .is-number .result)
+    ≡ (not (eqb (s .args .service) 1) && eqb (typeCode (s .args .r .now)) 4 && isNumber (accountOf (part 22 32 (s .args .r .now))))
+excused p =
+    let s = p .before .before .before .before .before .before .before .before in
+    ap₂ (λ (t : ℕ) (b : Bool). not (eqb (s .args .service) 1) && eqb t 4 && b) (p .before .code-at .ensures)
+    (p .is-number .ensures ∙ ap isNumber (p .before .before .account-at .ensures))
 
 right-account-at-requires : tie.Need-right-account-at-requires
 right-account-at-requires c κs = search needs
 
 returns : tie.Need-returns
 returns c = λ f ks.
-    let p = c .before in
-    sym (right-sound f ks (p .before .before .args .r .now) (sym (p .right-account-at .ensures) ∙ c .if1 .taken))
+    let s = c .before .before .before in
+    sym (right-sound f ks (s .args .r .now) (s .args .service) (s .pre .1) (sym (c .before .right-account-at .ensures) ∙ c .if1 .taken))
+
+referred-requires : tie.Need-referred-requires
+referred-requires c κs = search needs
+
+returns-2 : tie.Need-returns-2
+returns-2 c = λ f ks.
+    let s = c .before .before .before .before .before in
+    sym (reference-sound f ks (s .args .r .now) (s .args .service) (s .pre .1) (sym (c .before .referred .ensures) ∙ c .if2 .taken))
 
 account-at-requires : tie.Need-account-at-requires
 account-at-requires c κs = search needs
@@ -53,26 +53,24 @@ account-at-requires c κs = search needs
 code-at-requires : tie.Need-code-at-requires
 code-at-requires c κs = search needs
 
-referred-requires : tie.Need-referred-requires
-referred-requires c κs = search needs
-
 is-number-requires : tie.Need-is-number-requires
 is-number-requires c κs = search needs
 
-demand-requires : tie.Need-demand-requires
-demand-requires c κs = search needs
+returns-3 : tie.Need-returns-3
+returns-3 c = λ f ks.
+    let s = c .before .before .before .before .before .before .before .before .before in
+    sym (type-sound f ks (s .args .r .now) (s .args .service) (s .pre .1) (sym (excused (c .before)) ∙ c .if3 .taken))
 
-demand-requires-2 : tie.Need-demand-requires-2
-demand-requires-2 c κs = search needs
+account-found-requires : tie.Need-account-found-requires
+account-found-requires c κs = search needs
 
-returns-2 : tie.Need-returns-2
-returns-2 c = λ f ks.
-    let q = c .before .before .before in
-    let p = q .before .before in
-    let t = p .before .before in
-    let s = t .before .before in
-    simp (c .demand2 .ensures, c .before .demand .ensures, c .before .before .is-number .ensures, p .account-at .ensures, q .referred .ensures, q .before .code-at .ensures, s .pre .1, number-in-account (part 22 32 (s .args .r .now)))
-    (sym (as-code f ks (s .args .r .now) false (sym (t .right-account-at .ensures) ∙ p .before .if1 .left)))
+returns-4 : tie.Need-returns-4
+returns-4 c = λ f ks.
+    let p = c .before .before in
+    let m = p .before .before .before in
+    let s = m .before .before .before .before .before in
+    c .account-found .ensures ∙ ap (λ (x : Account). accountFound x 7) (p .before .before .account-at .ensures)
+    ∙ sym (account-decides f ks (s .args .r .now) (s .args .service) (s .pre .1) (sym (m .before .referred .ensures) ∙ m .if2 .left) (sym (excused p) ∙ c .before .if3 .left))
 
 pub party-spec : {M : Type 1} → statement M
 party-spec =
@@ -80,10 +78,11 @@ party-spec =
     (tie.spec
     right-account-at-requires
     returns
+    referred-requires
+    returns-2
     account-at-requires
     code-at-requires
-    referred-requires
     is-number-requires
-    demand-requires
-    demand-requires-2
-    returns-2)
+    returns-3
+    account-found-requires
+    returns-4)

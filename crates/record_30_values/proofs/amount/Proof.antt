@@ -33,8 +33,8 @@ returns c =
 code-at-requires : tie.Need-code-at-requires
 code-at-requires c κs = search needs
 
-allowed-requires : tie.Need-allowed-requires
-allowed-requires c κs = search needs
+keeps-own-limit-requires : tie.Need-keeps-own-limit-requires
+keeps-own-limit-requires c κs = search needs
 
 demand-requires : tie.Need-demand-requires
 demand-requires c κs = search needs
@@ -65,7 +65,7 @@ returns-2 c =
     let rows : ℕ → Finding = λ x. demanded (demanded (demanded Sound (ownLimit (typeCode r) x) 13 8) (within (a .a .totals .totals .sum) (amount x) (limitFor (a .a .service))) 13 8) (within (a .file .sum) (amount x) limitWide) 13 8 in
     record {
       finding = λ ks.
-          simp (c .demand3 .ensures, c .before .holds2 .ensures, c .before .before .demand2 .ensures, c .before .before .before .holds .ensures, c .before .before .before .before .limit-for .ensures, p .demand .ensures, p .before .allowed .ensures, p .before .before .code-at .ensures)
+          simp (c .demand3 .ensures, c .before .holds2 .ensures, c .before .before .demand2 .ensures, c .before .before .before .holds .ensures, c .before .before .before .before .limit-for .ensures, p .demand .ensures, p .before .keeps-own-limit .ensures, p .before .before .code-at .ensures)
           (sym (next (a .file) ks _ _ _ (digits-pass _ _ read _ (q .n .given .1)) ∙ demands (a .file) ks _ _ ∙ ap rows known));
       amount = λ h. ap amount (sym known);
     }
@@ -79,7 +79,7 @@ amount-spec =
     enum-told
     returns
     code-at-requires
-    allowed-requires
+    keeps-own-limit-requires
     demand-requires
     limit-for-requires
     holds-requires

@@ -3,7 +3,7 @@
 use mathlib.Core.Path.{sym}
 use Rattle.layout.proofs.Laws.{demands}
 use Rattle.rules.specs.Codes.{typeCode}
-use Rattle.record_31_40.specs.Pieces.{address40}
+use Rattle.rules.specs.Layouts.{address40}
 use borrow.Author.Needs.{needs}
 use Rattle.record_31_40.proofs.address.Statement.{statement}
 use Rattle.record_31_40.proofs.address.Tie as tie

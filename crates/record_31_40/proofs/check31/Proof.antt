@@ -2,9 +2,8 @@
 -- Assumes nothing.
 use mathlib.Core.Path.{refl}
 use Rattle.fields.proofs.Tests.{and-left, and-right}
-use Rattle.rules.specs.Layouts.{repeats}
-use Rattle.record_31_40.specs.Pieces.{texts31}
-use Rattle.record_31_40.proofs.Both.{both-hold}
+use Rattle.rules.specs.Layouts.{repeats, texts31}
+use Rattle.layout.proofs.Laws.{both-hold}
 use borrow.Author.Needs.{needs}
 use Rattle.record_31_40.proofs.check31.Statement.{statement}
 use Rattle.record_31_40.proofs.check31.Tie as tie

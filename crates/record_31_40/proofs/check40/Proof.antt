@@ -5,9 +5,9 @@ use mathlib.Core.Path.{refl, ap, _∙_}
 use mathlib.Core.List.{_++_}
 use Rattle.fields.proofs.Tests.{and-left, and-right}
 use Rattle.layout.specs.Rows.{firstFault}
-use Rattle.rules.specs.Layouts.{repeats}
-use Rattle.record_31_40.specs.Pieces.{address40}
-use Rattle.record_31_40.proofs.Both.{both-hold, same-type}
+use Rattle.rules.specs.Layouts.{repeats, address40}
+use Rattle.layout.proofs.Laws.{both-hold}
+use Rattle.record_31_40.proofs.Both.{same-type}
 use borrow.Author.Needs.{needs}
 use Rattle.record_31_40.proofs.check40.Statement.{statement}
 use Rattle.record_31_40.proofs.check40.Tie as tie

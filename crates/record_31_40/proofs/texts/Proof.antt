@@ -2,7 +2,7 @@
 -- Assumes nothing.
 use mathlib.Core.Path.{sym}
 use Rattle.layout.proofs.Laws.{demands}
-use Rattle.record_31_40.specs.Pieces.{texts31}
+use Rattle.rules.specs.Layouts.{texts31}
 use borrow.Author.Needs.{needs}
 use Rattle.record_31_40.proofs.texts.Statement.{statement}
 use Rattle.record_31_40.proofs.texts.Tie as tie

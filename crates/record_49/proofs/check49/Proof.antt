@@ -1,49 +1,76 @@
--- Record 49 is checked in pieces: what it repeats, and where that is sound, its place and its text; the places behind it are those of the middle piece.
+-- Record 49, stage by stage: a fault ends the record, and each sound stage leaves the rest; the places taken are those of the stage of the place.
 -- Assumes nothing.
-use mathlib.Core.Path.{refl, sym, _∙_}
+use Prim.Native.Nat.{ℕ}
+use mathlib.Core.Path.{_≡_, refl, sym, _∙_}
 use mathlib.Core.List.{List, [], _∷_, _++_}
+use Rattle.figures.specs.declared.totals.Totals.{Totals}
 use Rattle.layout.specs.Rules.{fixed, textual, zeros}
-use Rattle.layout.specs.Rows.{Row, at}
-use Rattle.layout.proofs.Laws.{or-else-both, demanded-both, ends-here, fault-not-sound}
-use Rattle.rules.specs.Layouts.{repeats}
-use Rattle.record_shared.proofs.Around.{around}
-use Rattle.record_49.specs.Pieces.{place49}
+use Rattle.layout.specs.Rows.{Row, at, firstFault}
+use Rattle.layout.specs.declared.Finding.{Finding}
+use Rattle.layout.proofs.Laws.{no-value, next, stop, test-pass, test-fail, demands, ends-here, goes-on}
+use Rattle.rules.specs.Layouts.{repeats, place49, record49}
+use Rattle.rules.specs.declared.Assignment.{Assignment}
 use borrow.Author.Needs.{needs}
 use Rattle.record_49.proofs.check49.Statement.{statement}
 use Rattle.record_49.proofs.check49.Tie as tie
 use Rattle.record_49.proofs.check49.Reads as reads
 use Rattle.record_49.proofs.check49.Lts as lts
-use Rattle.record_shared.proofs.repeating.Reads as repeating-reads
 use Rattle.fields.proofs.all_at.Reads as all-at-reads
 use Rattle.fields.proofs.same_at.Reads as same-at-reads
 use Rattle.fields.proofs.zeros_from.Reads as zeros-from-reads
 use Rattle.layout.proofs.Finding.demand.Reads as demand-reads
-use Rattle.layout.proofs.Finding.or_else.Reads as or-else-reads
 use Rattle.record_49.proofs.placing.Reads as placing-reads
+use Rattle.record_49.proofs.unplaced.Reads as unplaced-reads
+use Rattle.record_shared.proofs.repeating.Reads as repeating-reads
+
+-- field 6; fields 9 and 10; what stands behind field 5
+abbrev three : Row
+three = at 6 16 16 (fixed "3")
+
+abbrev last : List Row
+last = at 9 21 60 textual ∷ at 10 61 80 zeros ∷ []
+
+abbrev own : Assignment → List ℕ → List Row
+own a r = three ∷ (place49 a r ++ last)
+
+-- behind fields that repeat their record 30, and behind field 6
+repeated : (p : tie.After-enum-told) (f : Totals) (ks : List ℕ) {y : Finding}
+    → let s = p .before .before .before .before .before .args in
+    y ≡ firstFault f ks (s .r .now) (own (s .a) (s .r .now)) → y ≡ firstFault f ks (s .r .now) (record49 (s .a) (s .r .now))
+repeated p f ks g =
+    let s = p .before .before .before .before .before .args in
+    goes-on f ks (s .r .now) (repeats (s .a) (s .r .now)) (own (s .a) (s .r .now)) (p .before .before .repeating .ensures (s .a) refl refl refl f ks) (p .enum-told .given .1) g
+
+coded : (p : tie.Else1) (f : Totals) (ks : List ℕ) {y : Finding}
+    → let s = p .before .before .before .before .before .before .before .before .args in
+    y ≡ firstFault f ks (s .r .now) (place49 (s .a) (s .r .now) ++ last) → y ≡ firstFault f ks (s .r .now) (record49 (s .a) (s .r .now))
+coded p f ks g =
+    let s = p .before .before .before .before .before .before .before .before .args in
+    repeated (p .before .before .before) f ks
+    (g ∙ sym (next f ks (s .r .now) three (place49 (s .a) (s .r .now) ++ last) (test-pass _ _ (p .before .same-at .ensures) (p .if1 .left))))
 
 repeating-requires : tie.Need-repeating-requires
 repeating-requires c κs = search needs
 
-enum-told : tie.Need-enum-told
-enum-told c = search needs
+enum-known-head : tie.Need-enum-known-head
+enum-known-head c = search needs
 
-enum-told-2 : tie.Need-enum-told-2
-enum-told-2 c = search needs
+unplaced-requires : tie.Need-unplaced-requires
+unplaced-requires c κs = search needs
 
 returns : tie.Need-returns
 returns c =
-    let p = c .before .before in
-    let a = p .before .before .before .args in
-    let r = a .r .now in
-    let rest : List Row = (at 6 16 16 (fixed "3") ∷ place49 (a .a) r) ++ (at 9 21 60 textual ∷ at 10 61 80 zeros ∷ []) in
-    let fault = c .enum-told2 .given .1 in
+    let p = c .before .before .before .before in
+    let s = p .before .before .before .args in
+    let e = c .unplaced .ensures in
+    let fault = c .before .before .head .given .1 in
     record {
-      finding = λ f ks. ends-here f ks r (repeats (a .a) r) rest (p .repeating .ensures (a .a) refl refl refl f ks) fault;
-      places = λ s. absurd (fault-not-sound _ _ (sym fault ∙ s));
+      finding = λ f ks. e ∙ sym fault ∙ ends-here f ks (s .r .now) (repeats (s .a) (s .r .now)) (own (s .a) (s .r .now)) (p .repeating .ensures (s .a) refl refl refl f ks) fault;
+      places = λ h. absurd (no-value e h);
     }
 
-placing-requires : tie.Need-placing-requires
-placing-requires c κs = search needs
+enum-told : tie.Need-enum-told
+enum-told c = search needs
 
 slice-aggregate-same-at : tie.Need-slice-aggregate-same-at
 slice-aggregate-same-at c = search needs
@@ -51,51 +78,59 @@ slice-aggregate-same-at c = search needs
 same-at-requires : tie.Need-same-at-requires
 same-at-requires c κs = search needs
 
-demand-requires : tie.Need-demand-requires
-demand-requires c κs = search needs
+unplaced-requires-2 : tie.Need-unplaced-requires-2
+unplaced-requires-2 c κs = search needs
 
-or-else-requires : tie.Need-or-else-requires
-or-else-requires c κs = search needs
+returns-2 : tie.Need-returns-2
+returns-2 c =
+    let e = c .unplaced2 .ensures in
+    record {
+      finding = λ f ks. repeated (c .before .before .before .before) f ks (e ∙ sym (stop f ks _ three _ (test-fail _ _ (c .before .before .same-at .ensures) (c .before .if1 .taken))));
+      places = λ h. absurd (no-value e h);
+    }
+
+placing-requires : tie.Need-placing-requires
+placing-requires c κs = search needs
+
+enum-told-2 : tie.Need-enum-told-2
+enum-told-2 c = search needs
+
+enum-told-3 : tie.Need-enum-told-3
+enum-told-3 c = search needs
+
+returns-3 : tie.Need-returns-3
+returns-3 c =
+    let p = c .before .before in
+    let s = p .before .before .before .before .before .before .before .before .before .args in
+    let fault = c .enum-told3 .given .1 in
+    record {
+      finding = λ f ks. coded (p .before) f ks (ends-here f ks (s .r .now) (place49 (s .a) (s .r .now)) last (p .placing .ensures .finding f ks) fault);
+      places = λ h. absurd (no-value fault h);
+    }
 
 all-at-requires : tie.Need-all-at-requires
 all-at-requires c κs = search needs
 
-demand-requires-2 : tie.Need-demand-requires-2
-demand-requires-2 c κs = search needs
+demand-requires : tie.Need-demand-requires
+demand-requires c κs = search needs
 
 zeros-from-requires : tie.Need-zeros-from-requires
 zeros-from-requires c κs = search needs
 
-demand-requires-3 : tie.Need-demand-requires-3
-demand-requires-3 c κs = search needs
+demand-requires-2 : tie.Need-demand-requires-2
+demand-requires-2 c κs = search needs
 
-returns-2 : tie.Need-returns-2
-returns-2 c =
-    let p = c .before .before .before .before in
-    let placed = p .before .before .before .before .placing in
-    let q = p .before .before .before .before .before .before .before in
-    let a = q .before .before .before .args in
-    let r = a .r .now in
-    let three : List Row = at 6 16 16 (fixed "3") ∷ [] in
-    let last : List Row = at 9 21 60 textual ∷ at 10 61 80 zeros ∷ [] in
+returns-4 : tie.Need-returns-4
+returns-4 c =
+    let p = c .before .before .before .before .before .before in
+    let s = p .before .before .before .before .before .before .before .before .before .args in
+    let sound = c .before .before .before .before .enum-told2 .given .1 in
     record {
       finding = λ f ks.
-          simp (
-            c .demand3 .ensures,
-            c .before .zeros-from .ensures,
-            c .before .before .demand2 .ensures,
-            c .before .before .before .all-at .ensures,
-            p .or-else .ensures,
-            placed .ensures .finding f ks,
-            p .before .demand .ensures,
-            p .before .before .same-at .ensures,
-            q .repeating .ensures (a .a) refl refl refl f ks,
-          )
-          (sym (around f ks r (repeats (a .a) r) three (place49 (a .a) r) last));
-      places = λ s.
-          let s2 = demanded-both (c .before .before .demand2 .result) (c .before .zeros-from .result) 7 10 (sym (c .demand3 .ensures) ∙ s) .0 in
-          let s1 = demanded-both (p .or-else .result) (c .before .before .before .all-at .result) 8 9 (sym (c .before .before .demand2 .ensures) ∙ s2) .0 in
-          placed .ensures .places (or-else-both (p .before .demand .result) (placed .result .finding) (sym (p .or-else .ensures) ∙ s1) .1);
+          coded (p .before) f ks
+          (goes-on f ks (s .r .now) (place49 (s .a) (s .r .now)) last (p .placing .ensures .finding f ks) sound
+          (simp (c .demand2 .ensures, c .before .zeros-from .ensures, c .before .before .demand .ensures, c .before .before .before .all-at .ensures, sound) (sym (demands f ks (s .r .now) last))));
+      places = λ h. p .placing .ensures .places sound;
     }
 
 pub check49-spec : {M : Type 1} → statement M
@@ -103,16 +138,20 @@ check49-spec =
     tie.close
     (tie.spec
     repeating-requires
-    enum-told
-    enum-told-2
+    enum-known-head
+    unplaced-requires
     returns
-    placing-requires
+    enum-told
     slice-aggregate-same-at
     same-at-requires
-    demand-requires
-    or-else-requires
+    unplaced-requires-2
+    returns-2
+    placing-requires
+    enum-told-2
+    enum-told-3
+    returns-3
     all-at-requires
-    demand-requires-2
+    demand-requires
     zeros-from-requires
-    demand-requires-3
-    returns-2)
+    demand-requires-2
+    returns-4)

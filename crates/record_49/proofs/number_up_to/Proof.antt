@@ -1,10 +1,14 @@
--- A number from 1 to a bound: no digits, too large, within the bound.
+-- A number from 1 to a bound: no digits, out of bounds, within them.
 -- Assumes nothing.
-use borrow.Author.Needs.{needs}
+use borrow.Author.Tests.{not-true, not-false}
 use Rattle.layout.proofs.Laws.{digits-pass, digits-fail, value-is}
-use Rattle.record_49.proofs.Bounds.{no-digits, too-large, in-bound}
+use Rattle.record_49.proofs.Bounds.{no-digits, out-of-bounds, in-bounds}
+use borrow.Author.Needs.{needs}
 use Rattle.record_49.proofs.number_up_to.Statement.{statement}
 use Rattle.record_49.proofs.number_up_to.Tie as tie
+use Rattle.record_49.proofs.number_up_to.Reads as reads
+use Rattle.record_49.proofs.number_up_to.Lts as lts
+use Rattle.fields.proofs.number_at.Reads as number-at-reads
 
 number-at-requires : tie.Need-number-at-requires
 number-at-requires c κs = search needs
@@ -19,13 +23,16 @@ returns : tie.Need-returns
 returns c = no-digits _ _ (digits-fail _ _ (c .before .before .number-at .ensures) (c .enum-told .given .1))
 
 returns-2 : tie.Need-returns-2
-returns-2 c = too-large _ _ _ (value-is _ _ (c .before .before .before .before .number-at .ensures) _ (c .before .before .n .given .1)) (c .if1 .taken)
+returns-2 c =
+    let read = c .before .before .before .before .number-at .ensures in
+    let is = c .before .before .n .given .1 in
+    out-of-bounds _ _ (digits-pass _ _ read _ is) _ (value-is _ _ read _ is) (not-true _ (c .if1 .taken))
 
 returns-3 : tie.Need-returns-3
 returns-3 c =
     let read = c .before .before .before .before .number-at .ensures in
     let is = c .before .before .n .given .1 in
-    in-bound _ _ _ (digits-pass _ _ read _ is) (value-is _ _ read _ is) (c .if1 .left)
+    in-bounds _ _ (digits-pass _ _ read _ is) _ (value-is _ _ read _ is) (not-false _ (c .if1 .left))
 
 pub number-up-to-spec : {M : Type 1} → statement M
 number-up-to-spec =

@@ -1,91 +1,115 @@
--- Line, column and place of a record 49: the place counts only where line and column are sound, and then it is that of the record.
+-- Line, column and place of a record 49, in turn: each that does not hold ends the stage, and a free place is that of the record.
 -- Assumes nothing.
-use Prim.Native.Nat.{ℕ, _+_, _*_}
+use Prim.Native.Nat.{ℕ, _+_, _*_, _≤_}
 use mathlib.Core.Path.{_≡_, sym, _∙_, ap, ap₂}
-use mathlib.Core.List.{List}
 use mathlib.Core.Bool.{true, not}
 use native.Mathlib.Omega.{arith}
-use borrow.Author.Needs.{needs}
-use lib.Dec.{ltb}
 use Rattle.fields.specs.Bytes.{part}
+use Rattle.fields.specs.Numbers.{value}
+use Rattle.layout.specs.Findings.{demanded}
 use Rattle.layout.specs.declared.Finding.the-variants.{Sound}
-use Rattle.layout.proofs.Laws.{demands}
+use Rattle.layout.proofs.Laws.{next, stop, demands, no-value}
 use Rattle.rules.specs.Messages.{placeIn, taken, withPlace}
-use Rattle.rules.specs.Payments.{isLine, isColumn}
-use Rattle.record_49.specs.Pieces.{upTo, place49}
-use Rattle.record_49.proofs.Bounds.{up-to-yes, bounded, above-zero, line-test, column-test}
-use Rattle.layout.proofs.Laws.{demanded-both}
-use Rattle.record_49.proofs.Soundness.{counts-behind}
+use Rattle.record_49.specs.Bounds.{isUpTo}
+use Rattle.record_49.proofs.Bounds.{bounds-pass, bounds-fail, line-test, column-test}
+use borrow.Author.Needs.{needs}
 use Rattle.record_49.proofs.placing.Statement.{statement}
 use Rattle.record_49.proofs.placing.Tie as tie
+use Rattle.record_49.proofs.placing.Reads as reads
+use Rattle.record_49.proofs.placing.Lts as lts
+use Rattle.layout.proofs.Finding.demand.Reads as demand-reads
+use Rattle.record_49.proofs.is_taken.Reads as is-taken-reads
+use Rattle.record_49.proofs.number_up_to.Reads as number-up-to-reads
+use Rattle.record_49.proofs.unplaced.Reads as unplaced-reads
+use Rattle.record_49.proofs.with_place.Reads as with-place-reads
 
--- what line and column say of the record
-module _ (r : List ℕ) where
-  test-line : (line : ℕ) → line ≡ upTo 21 (part 17 19 r) → ltb 0 line ≡ isLine (part 17 19 r)
-  test-line line e = ap (ltb 0) e ∙ above-zero 21 (part 17 19 r) ∙ line-test (part 17 19 r)
+-- the line that was read, and the column
+line-read : (p : tie.After-known-told)
+    → let s = part 17 19 (p .before .before .before .before .before .args .r .now) in
+    (isUpTo 21 s ≡ true) × ((value s ≡ p .before .line .given .0 .0) × (p .before .line .given .0 .0 ≤ 21))
+line-read p = bounds-pass 21 _ _ (sym (p .before .before .before .number-up-to .ensures) ∙ p .before .line .given .1)
 
-  test-column : (column : ℕ) → column ≡ upTo 2 (part 20 20 r) → ltb 0 column ≡ isColumn (part 20 20 r)
-  test-column column e = ap (ltb 0) e ∙ above-zero 2 (part 20 20 r) ∙ column-test (part 20 20 r)
-
-  place-is : (line column : ℕ) → line ≡ upTo 21 (part 17 19 r) → column ≡ upTo 2 (part 20 20 r)
-      → isLine (part 17 19 r) ≡ true → isColumn (part 20 20 r) ≡ true → line * 2 + column ≡ placeIn r
-  place-is line column el ec hl hc =
-      ap₂ (λ (x y : ℕ). x * 2 + y) (el ∙ up-to-yes 21 (part 17 19 r) (line-test (part 17 19 r) ∙ hl)) (ec ∙ up-to-yes 2 (part 20 20 r) (column-test (part 20 20 r) ∙ hc))
+column-read : (p : tie.After-known-told2)
+    → let s = part 20 20 (p .before .before .before .before .before .before .before .before .before .args .r .now) in
+    (isUpTo 2 s ≡ true) × ((value s ≡ p .before .column .given .0 .0) × (p .before .column .given .0 .0 ≤ 2))
+column-read p = bounds-pass 2 _ _ (sym (p .before .before .before .number-up-to2 .ensures) ∙ p .before .column .given .1)
 
 number-up-to-requires : tie.Need-number-up-to-requires
 number-up-to-requires c κs = search needs
 
+enum-known-line : tie.Need-enum-known-line
+enum-known-line c = search needs
+
+enum-told : tie.Need-enum-told
+enum-told c = search needs
+
+unplaced-requires : tie.Need-unplaced-requires
+unplaced-requires c κs = search needs
+
+returns : tie.Need-returns
+returns c =
+    let e = c .unplaced .ensures in
+    record {
+      finding = λ f ks. e ∙ sym (stop f ks _ _ _ (sym (line-test _) ∙ bounds-fail 21 _ (sym (c .before .before .before .number-up-to .ensures) ∙ c .before .enum-told .given .1)));
+      places = λ s. absurd (no-value e s);
+    }
+
 number-up-to-requires-2 : tie.Need-number-up-to-requires-2
 number-up-to-requires-2 c κs = search needs
 
+enum-known-column : tie.Need-enum-known-column
+enum-known-column c = search needs
+
+enum-told-2 : tie.Need-enum-told-2
+enum-told-2 c = search needs
+
+unplaced-requires-2 : tie.Need-unplaced-requires-2
+unplaced-requires-2 c κs = search needs
+
+returns-2 : tie.Need-returns-2
+returns-2 c =
+    let e = c .unplaced2 .ensures in
+    let line = line-read (c .before .before .before .before) in
+    record {
+      finding = λ f ks.
+          e
+          ∙ sym
+          (next f ks _ _ _ (sym (line-test _) ∙ line .0)
+          ∙ stop f ks _ _ _ (sym (column-test _) ∙ bounds-fail 2 _ (sym (c .before .before .before .number-up-to2 .ensures) ∙ c .before .enum-told2 .given .1)));
+      places = λ s. absurd (no-value e s);
+    }
+
 mul-place : tie.Need-mul-place
-mul-place c = omega (arith, bounded _ _ _ (c .before .number-up-to .ensures))
+mul-place c = omega (arith, line-read (c .before .before .before .before) .1 .1)
 
 add-place : tie.Need-add-place
-add-place c = omega (arith, bounded _ _ _ (c .before .number-up-to .ensures), bounded _ _ _ (c .number-up-to2 .ensures))
+add-place c = omega (arith, line-read (c .before .before .before .before) .1 .1, column-read c .1 .1)
+
+is-taken-requires : tie.Need-is-taken-requires
+is-taken-requires c κs = omega (arith, line-read (c .before .before .before .before) .1 .1, column-read c .1 .1)
 
 demand-requires : tie.Need-demand-requires
 demand-requires c κs = search needs
 
-demand-requires-2 : tie.Need-demand-requires-2
-demand-requires-2 c κs = search needs
-
-is-taken-requires : tie.Need-is-taken-requires
-is-taken-requires c κs = omega (arith, bounded _ _ _ (c .before .before .before .number-up-to .ensures), bounded _ _ _ (c .before .before .number-up-to2 .ensures))
-
-demand-requires-3 : tie.Need-demand-requires-3
-demand-requires-3 c κs = search needs
-
 with-place-requires : tie.Need-with-place-requires
 with-place-requires c κs =
-    let p = c .before .before .before .before in
-    omega (arith, bounded _ _ _ (p .before .number-up-to .ensures), bounded _ _ _ (p .number-up-to2 .ensures))
+    let p = c .before .before in
+    omega (arith, line-read (p .before .before .before .before) .1 .1, column-read p .1 .1)
 
-returns : tie.Need-returns
-returns c =
-    let p = c .before .before .before .before .before in
-    let a = p .before .before .before .args in
-    let r = a .r .now in
-    let line = p .before .number-up-to .result in
-    let column = p .number-up-to2 .result in
-    let el = p .before .number-up-to .ensures in
-    let ec = p .number-up-to2 .ensures in
-    let tl = test-line r line el in
-    let tc = test-column r column ec in
-    let d1 = c .before .before .before .before .demand in
-    let d2 = c .before .before .before .demand2 in
-    let d3 = c .before .demand3 in
+returns-3 : tie.Need-returns-3
+returns-3 c =
+    let p = c .before .before .before in
+    let line = line-read (p .before .before .before .before) in
+    let column = column-read p in
+    let a = p .before .before .before .before .before .before .before .before .before .args .a in
+    let place = ap₂ (λ (x y : ℕ). x * 2 + y) (line .1 .0) (column .1 .0) in
     record {
       finding = λ f ks.
-          simp (d3 .ensures, c .before .before .is-taken .ensures, d2 .ensures, d1 .ensures, tl, tc)
-          (counts-behind (isLine (part 17 19 r)) (isColumn (part 20 20 r)) (not (taken (a .a .places) (line * 2 + column))) (not (taken (a .a .places) (placeIn r)))
-          (λ hl hc. ap (λ (x : ℕ). not (taken (a .a .places) x)) (place-is r line column el ec hl hc))
-          ∙ sym (demands f ks r (place49 (a .a) r)));
-      places = λ s.
-          let s2 = demanded-both (d2 .result) (not (c .before .before .is-taken .result)) 17 7 (sym (d3 .ensures) ∙ s) .0 in
-          let s1 = demanded-both (d1 .result) (ltb 0 column) 7 8 (sym (d2 .ensures) ∙ s2) in
-          let s0 = demanded-both Sound (ltb 0 line) 7 7 (sym (d1 .ensures) ∙ s1 .0) in
-          c .with-place .ensures ∙ ap (withPlace (a .a .places)) (place-is r line column el ec (sym tl ∙ s0 .1) (sym tc ∙ s1 .1));
+          simp (c .before .demand .ensures, c .before .before .is-taken .ensures)
+          (sym
+          (next f ks _ _ _ (sym (line-test _) ∙ line .0) ∙ next f ks _ _ _ (sym (column-test _) ∙ column .0)
+          ∙ demands f ks _ _ ∙ ap (λ (x : ℕ). demanded Sound (not (taken (a .places) x)) 17 7) place));
+      places = λ s. c .with-place .ensures ∙ ap (withPlace (a .places)) (sym place);
     }
 
 pub placing-spec : {M : Type 1} → statement M
@@ -93,12 +117,18 @@ placing-spec =
     tie.close
     (tie.spec
     number-up-to-requires
+    enum-known-line
+    enum-told
+    unplaced-requires
+    returns
     number-up-to-requires-2
+    enum-known-column
+    enum-told-2
+    unplaced-requires-2
+    returns-2
     mul-place
     add-place
-    demand-requires
-    demand-requires-2
     is-taken-requires
-    demand-requires-3
+    demand-requires
     with-place-requires
-    returns)
+    returns-3)

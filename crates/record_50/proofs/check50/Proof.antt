@@ -1,113 +1,110 @@
--- Record 50: where fields 1 to 5, KID and zeros hold, it is what its amount is found to be. Else it is checked in pieces:
--- fields 1 to 5, KID, amount, zeros; the amount behind it is that of the piece.
+-- Record 50, stage by stage: fields 1 to 6, the amount, the zeros; the amount of a sound record is that of its stage.
 -- Assumes nothing.
+use Prim.Native.Nat.{ℕ}
 use mathlib.Core.Path.{sym, _∙_}
-use mathlib.Core.Bool.{_&&_}
-use mathlib.Core.List.{List, [], _∷_}
-use borrow.Author.Needs.{needs}
-use Rattle.fields.proofs.Tests.{and-left, and-right}
+use mathlib.Core.List.{List, [], _∷_, _++_}
 use Rattle.layout.specs.Rules.{kid, zeros}
-use Rattle.layout.specs.Rows.{Row, at, AllHold}
-use Rattle.record_50.specs.Pieces.{head50, sum50}
-use Rattle.layout.proofs.Laws.{or-else-both, demanded-both}
-use Rattle.record_shared.proofs.Around.{around}
-use Rattle.record_50.proofs.Among.{among}
+use Rattle.layout.specs.Rows.{Row, at}
+use Rattle.layout.proofs.Laws.{no-value, demands, ends-here, goes-on}
+use Rattle.rules.specs.Layouts.{head50, sum50}
+use Rattle.rules.specs.declared.Assignment.{Assignment}
+use borrow.Author.Needs.{needs}
 use Rattle.record_50.proofs.check50.Statement.{statement}
 use Rattle.record_50.proofs.check50.Tie as tie
+use Rattle.record_50.proofs.check50.Reads as reads
+use Rattle.record_50.proofs.check50.Lts as lts
+use Rattle.fields.proofs.zeros_from.Reads as zeros-from-reads
+use Rattle.layout.proofs.Finding.demand.Reads as demand-reads
+use Rattle.record_50.proofs.referring.Reads as referring-reads
+use Rattle.record_50.proofs.specifying.Reads as specifying-reads
+use Rattle.record_50.proofs.unspecified.Reads as unspecified-reads
 
--- field 6, and field 8
-abbrev reference : List Row
-reference = at 6 16 40 kid ∷ []
+-- fields 1 to 6, and field 8
+abbrev front : Assignment → List ℕ → List Row
+front a r = head50 a r ++ (at 6 16 40 kid ∷ [])
 
 abbrev last : List Row
 last = at 8 58 80 zeros ∷ []
 
+referring-requires : tie.Need-referring-requires
+referring-requires c κs = search needs
+
+enum-known-head : tie.Need-enum-known-head
+enum-known-head c = search needs
+
+unspecified-requires : tie.Need-unspecified-requires
+unspecified-requires c κs = search needs
+
+returns : tie.Need-returns
+returns c =
+    let p = c .before .before .before .before in
+    let s = p .before .before .args in
+    let rest : List Row = sum50 (s .a) (s .r .now) ++ last in
+    let e = c .unspecified .ensures in
+    let fault = c .before .before .head .given .1 in
+    record {
+      finding = λ f ks. e ∙ sym fault ∙ ends-here f ks (s .r .now) (front (s .a) (s .r .now)) rest (p .referring .ensures f ks) fault;
+      amount = λ h. absurd (no-value e h);
+    }
+
+enum-told : tie.Need-enum-told
+enum-told c = search needs
+
 specifying-requires : tie.Need-specifying-requires
 specifying-requires c κs = search needs
 
-headed-requires : tie.Need-headed-requires
-headed-requires c κs = search needs
+enum-told-2 : tie.Need-enum-told-2
+enum-told-2 c = search needs
 
-kid-at-requires : tie.Need-kid-at-requires
-kid-at-requires c κs = search needs
-
-zeros-from-requires : tie.Need-zeros-from-requires
-zeros-from-requires c κs = search needs
-
-returns : tie.Need-returns
-unfolding AllHold
-returns c =
-    let p = c .before .before in
-    let head = p .before .headed in
-    let specified = p .before .before .specifying in
-    let a = p .before .before .before .before .args in
-    let r = a .r .now in
-    let both = and-left (head .result && p .kid-at .result) (c .before .zeros-from .result) (c .if1 .taken) in
-    let referred = sym (p .kid-at .ensures) ∙ and-right (head .result) (p .kid-at .result) both in
-    let empty = sym (c .before .zeros-from .ensures) ∙ and-right (head .result && p .kid-at .result) (c .before .zeros-from .result) (c .if1 .taken) in
-    record {
-      finding = λ f ks.
-          specified .ensures .finding f ks
-          ∙ sym (among f ks r (head50 (a .a) r) reference (sum50 (a .a) r) last (head .ensures (and-left (head .result) (p .kid-at .result) both) f ks) (referred, tt) (empty, tt));
-      amount = specified .ensures .amount;
-    }
-
-heading-requires : tie.Need-heading-requires
-heading-requires c κs = search needs
-
-kid-at-requires-2 : tie.Need-kid-at-requires-2
-kid-at-requires-2 c κs = search needs
-
-demand-requires : tie.Need-demand-requires
-demand-requires c κs = search needs
-
-or-else-requires : tie.Need-or-else-requires
-or-else-requires c κs = search needs
-
-zeros-from-requires-2 : tie.Need-zeros-from-requires-2
-zeros-from-requires-2 c κs = search needs
-
-demand-requires-2 : tie.Need-demand-requires-2
-demand-requires-2 c κs = search needs
+enum-told-3 : tie.Need-enum-told-3
+enum-told-3 c = search needs
 
 returns-2 : tie.Need-returns-2
 returns-2 c =
     let p = c .before .before in
-    let q = p .before .before .before in
-    let start = q .before .before .before .before .before .before in
-    let specified = start .specifying in
-    let a = start .before .before .args in
-    let r = a .r .now in
+    let s = p .before .before .before .before .before .args in
+    let rest : List Row = sum50 (s .a) (s .r .now) ++ last in
+    let fault = c .enum-told3 .given .1 in
     record {
       finding = λ f ks.
-          simp (
-            c .demand2 .ensures,
-            c .before .zeros-from2 .ensures,
-            p .or-else .ensures,
-            specified .ensures .finding f ks,
-            p .before .demand .ensures,
-            p .before .before .kid-at2 .ensures,
-            q .heading .ensures f ks,
-          )
-          (sym (around f ks r (head50 (a .a) r) reference (sum50 (a .a) r) last));
-      amount = λ s.
-          let s1 = demanded-both (p .or-else .result) (c .before .zeros-from2 .result) 7 8 (sym (c .demand2 .ensures) ∙ s) .0 in
-          specified .ensures .amount (or-else-both (p .before .demand .result) (specified .result .finding) (sym (p .or-else .ensures) ∙ s1) .1);
+          goes-on f ks (s .r .now) (front (s .a) (s .r .now)) rest (p .before .before .before .referring .ensures f ks) (p .before .enum-told .given .1)
+          (ends-here f ks (s .r .now) (sum50 (s .a) (s .r .now)) last (p .specifying .ensures .finding f ks) fault);
+      amount = λ h. absurd (no-value fault h);
+    }
+
+zeros-from-requires : tie.Need-zeros-from-requires
+zeros-from-requires c κs = search needs
+
+demand-requires : tie.Need-demand-requires
+demand-requires c κs = search needs
+
+returns-3 : tie.Need-returns-3
+returns-3 c =
+    let p = c .before .before .before .before .before in
+    let s = p .before .before .before .before .before .args in
+    let rest : List Row = sum50 (s .a) (s .r .now) ++ last in
+    let sound = c .before .before .before .enum-told2 .given .1 in
+    record {
+      finding = λ f ks.
+          goes-on f ks (s .r .now) (front (s .a) (s .r .now)) rest (p .before .before .before .referring .ensures f ks) (p .before .enum-told .given .1)
+          (goes-on f ks (s .r .now) (sum50 (s .a) (s .r .now)) last (p .specifying .ensures .finding f ks) sound
+          (simp (c .demand .ensures, c .before .zeros-from .ensures, sound) (sym (demands f ks (s .r .now) last))));
+      amount = λ h. p .specifying .ensures .amount sound;
     }
 
 pub check50-spec : {M : Type 1} → statement M
 check50-spec =
     tie.close
     (tie.spec
-    specifying-requires
-    headed-requires
-    kid-at-requires
-    zeros-from-requires
+    referring-requires
+    enum-known-head
+    unspecified-requires
     returns
-    heading-requires
-    kid-at-requires-2
+    enum-told
+    specifying-requires
+    enum-told-2
+    enum-told-3
+    returns-2
+    zeros-from-requires
     demand-requires
-    or-else-requires
-    zeros-from-requires-2
-    demand-requires-2
-    returns-2)
+    returns-3)

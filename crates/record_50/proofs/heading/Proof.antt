@@ -1,18 +1,43 @@
--- Fields 1 to 5 of a record 50, in pieces.
+-- Fields 1 to 5 of a record 50: a fault in fields 1 to 3 ends the stage, and behind them stands field 5.
 -- Assumes nothing.
-use mathlib.Core.Path.{refl, sym, _∙_, ap, ap₂}
+use Prim.Native.Nat.{ℕ}
+use mathlib.Core.Path.{_≡_, refl, sym, _∙_, ap}
 use mathlib.Core.List.{List, [], _∷_, _++_}
 use mathlib.Core.Bool.{Bool}
-use borrow.Author.Needs.{needs}
 use Rattle.fields.specs.Bytes.{part}
-use Rattle.layout.specs.Findings.{orElse, demanded}
+use Rattle.figures.specs.declared.totals.Totals.{Totals}
+use Rattle.layout.specs.Findings.{demanded}
 use Rattle.layout.specs.Rules.{listed}
 use Rattle.layout.specs.Rows.{Row, at, firstFault}
-use Rattle.layout.proofs.Laws.{pieces, rows-behind}
+use Rattle.layout.proofs.Laws.{rows-behind, ends-here, goes-on, two-listed}
 use Rattle.rules.specs.Layouts.{belongs, sameNumber}
-use Rattle.record_50.proofs.Listed.{two-listed}
+use Rattle.rules.specs.declared.Assignment.{Assignment}
+use borrow.Author.Needs.{needs}
 use Rattle.record_50.proofs.heading.Statement.{statement}
 use Rattle.record_50.proofs.heading.Tie as tie
+use Rattle.record_50.proofs.heading.Reads as reads
+use Rattle.record_50.proofs.heading.Lts as lts
+use Rattle.fields.proofs.same_at.Reads as same-at-reads
+use Rattle.layout.proofs.Finding.demand.Reads as demand-reads
+use Rattle.record_shared.proofs.belonging.Reads as belonging-reads
+use Rattle.record_shared.proofs.same_number.Reads as same-number-reads
+
+-- fields 1 to 3
+abbrev type : List Row
+type = at 3 5 6 (listed ("16" ∷ "17" ∷ [])) ∷ []
+
+abbrev rows3 : Assignment → List ℕ → List Row
+rows3 a r = belongs a r ++ type
+
+first3 : (p : tie.After-demand) (f : Totals) (ks : List ℕ)
+    → let s = p .before .before .before .before .before .before .before .before .args in
+    p .demand .result ≡ firstFault f ks (s .r .now) (rows3 (s .a) (s .r .now))
+first3 p f ks =
+    let q = p .before .before .before .before .before in
+    let s = q .before .before .before .args in
+    let r = s .r .now in
+    simp (p .demand .ensures, p .before .same-at2 .ensures, p .before .before .before .same-at .ensures, q .belonging .ensures (s .a) refl f ks)
+    (sym (rows-behind f ks r (belongs (s .a) r) type ∙ ap (λ (b : Bool). demanded (firstFault f ks r (belongs (s .a) r)) b 7 3) (two-listed "16" "17" (part 5 6 r))))
 
 belonging-requires : tie.Need-belonging-requires
 belonging-requires c κs = search needs
@@ -32,23 +57,26 @@ same-at-requires-2 c κs = search needs
 demand-requires : tie.Need-demand-requires
 demand-requires c κs = search needs
 
-same-number-requires : tie.Need-same-number-requires
-same-number-requires c κs = search needs
+enum-told : tie.Need-enum-told
+enum-told c = search needs
 
-or-else-requires : tie.Need-or-else-requires
-or-else-requires c κs = search needs
+enum-told-2 : tie.Need-enum-told-2
+enum-told-2 c = search needs
 
 returns : tie.Need-returns
 returns c = λ f ks.
     let p = c .before .before in
-    let q = p .before .before .before .before .before in
-    let a = q .before .before .before .args in
-    let r = a .r .now in
-    let type : List Row = at 3 5 6 (listed ("16" ∷ "17" ∷ [])) ∷ [] in
-    simp (c .or-else .ensures, c .before .same-number .ensures (a .a) refl f ks, p .demand .ensures, p .before .same-at2 .ensures, p .before .before .before .same-at .ensures, q .belonging .ensures (a .a) refl f ks)
-    (sym
-    (pieces f ks r (belongs (a .a) r ++ type) (sameNumber (a .a) r)
-    ∙ ap₂ orElse (rows-behind f ks r (belongs (a .a) r) type ∙ ap (λ (b : Bool). demanded (firstFault f ks r (belongs (a .a) r)) b 7 3) (two-listed (part 5 6 r))) refl))
+    let s = p .before .before .before .before .before .before .before .before .args in
+    ends-here f ks (s .r .now) (rows3 (s .a) (s .r .now)) (sameNumber (s .a) (s .r .now)) (first3 p f ks) (c .enum-told2 .given .1)
+
+same-number-requires : tie.Need-same-number-requires
+same-number-requires c κs = search needs
+
+returns-2 : tie.Need-returns-2
+returns-2 c = λ f ks.
+    let p = c .before .before .before in
+    let s = p .before .before .before .before .before .before .before .before .args in
+    goes-on f ks (s .r .now) (rows3 (s .a) (s .r .now)) (sameNumber (s .a) (s .r .now)) (first3 p f ks) (c .before .enum-told .given .1) (c .same-number .ensures (s .a) refl f ks)
 
 pub heading-spec : {M : Type 1} → statement M
 heading-spec =
@@ -60,6 +88,8 @@ heading-spec =
     slice-aggregate-same-at-2
     same-at-requires-2
     demand-requires
+    enum-told
+    enum-told-2
+    returns
     same-number-requires
-    or-else-requires
-    returns)
+    returns-2)

@@ -2,17 +2,24 @@
 -- Assumes nothing.
 use Prim.Native.Nat.{ℕ}
 use mathlib.Core.Path.{sym, _∙_, ap}
-use borrow.Author.Needs.{needs}
 use lib.Dec.{eqb}
 use Rattle.choice.specs.Choice.{if_then_else_}
 use Rattle.figures.specs.Figures.{amount, within, limitWide}
 use Rattle.layout.specs.Findings.{demanded}
 use Rattle.layout.specs.declared.Finding.the-variants.{Sound}
-use Rattle.layout.proofs.Laws.{next, stop, demands, digits-pass, digits-fail, value-is}
+use Rattle.layout.proofs.Laws.{no-value, next, stop, demands, digits-pass, digits-fail, value-is}
 use Rattle.rules.specs.Codes.{typeCode}
-use Rattle.layout.proofs.Laws.{fault-not-sound}
+use borrow.Author.Needs.{needs}
 use Rattle.record_50.proofs.specifying.Statement.{statement}
 use Rattle.record_50.proofs.specifying.Tie as tie
+use Rattle.record_50.proofs.specifying.Reads as reads
+use Rattle.record_50.proofs.specifying.Lts as lts
+use Rattle.fields.proofs.code_at.Reads as code-at-reads
+use Rattle.fields.proofs.number_at.Reads as number-at-reads
+use Rattle.figures.proofs.amounts.Amount.holds.Reads as holds-reads
+use Rattle.layout.proofs.Finding.demand.Reads as demand-reads
+use Rattle.record_50.proofs.sum_for.Reads as sum-for-reads
+use Rattle.record_50.proofs.unspecified.Reads as unspecified-reads
 
 number-at-requires : tie.Need-number-at-requires
 number-at-requires c κs = search needs
@@ -23,11 +30,15 @@ enum-known-n c = search needs
 enum-told : tie.Need-enum-told
 enum-told c = search needs
 
+unspecified-requires : tie.Need-unspecified-requires
+unspecified-requires c κs = search needs
+
 returns : tie.Need-returns
 returns c =
+    let e = c .unspecified .ensures in
     record {
-      finding = λ f ks. sym (stop f ks _ _ _ (digits-fail _ _ (c .before .before .number-at .ensures) (c .enum-told .given .1)));
-      amount = λ s. absurd (fault-not-sound 8 7 s);
+      finding = λ f ks. e ∙ sym (stop f ks _ _ _ (digits-fail _ _ (c .before .before .before .number-at .ensures) (c .before .enum-told .given .1)));
+      amount = λ s. absurd (no-value e s);
     }
 
 code-at-requires : tie.Need-code-at-requires
@@ -65,6 +76,7 @@ specifying-spec =
     number-at-requires
     enum-known-n
     enum-told
+    unspecified-requires
     returns
     code-at-requires
     sum-for-requires

@@ -6,7 +6,7 @@ use Rattle.record_shared.proofs.belonging.Statement.{statement}
 use Rattle.record_shared.proofs.belonging.Tie as tie
 use Rattle.record_shared.proofs.belonging.Reads as reads
 use Rattle.record_shared.proofs.belonging.Lts as lts
-use Rattle.record_shared.proofs.code_for.Reads as code-for-reads
+use Rattle.services.proofs.code_for.Reads as code-for-reads
 use Rattle.fields.proofs.code_at.Reads as code-at-reads
 use Rattle.fields.proofs.same_at.Reads as same-at-reads
 use Rattle.layout.proofs.Finding.demand.Reads as demand-reads

@@ -2,7 +2,7 @@
 -- Assumes nothing.
 use mathlib.Core.Path.{sym}
 use Rattle.layout.proofs.Laws.{demands}
-use Rattle.record_shared.specs.Heads.{outside}
+use Rattle.rules.specs.Layouts.{outside}
 use borrow.Author.Needs.{needs}
 use Rattle.record_shared.proofs.outside.Statement.{statement}
 use Rattle.record_shared.proofs.outside.Tie as tie

@@ -17,7 +17,7 @@ use Rattle.run_step.proofs.step50.Lts as lts
 use Rattle.record_50.proofs.check50.Reads as check50-reads
 use Rattle.fields.proofs.code_at.Reads as code-at-reads
 use Rattle.run_growth.proofs.group_with.Reads as group-with-reads
-use Rattle.run_step.proofs.pass_on.Reads as pass-on-reads
+use Rattle.run_step.proofs.pass_with.Reads as pass-with-reads
 
 check50-requires : tie.Need-check50-requires
 check50-requires c κs = search needs
@@ -41,8 +41,8 @@ group-with-requires c κs =
     let h = holds-at R50 (record { latest = record { 0 = 0 }; earliest01 = record { 0 = 0 }; earliest04 = record { 0 = 0 } }) (a .st) [] (a .r .now) _ (found .finding (a .st .file) []) sound in
     (q .pre .1 .specified, q .pre .1 .credited, within-by _ (ap (λ (x : Amount). x .0) (found .amount sound)) (specifies (a .st .file) [] (a .st .assignment) (a .r .now) h))
 
-pass-on-requires : tie.Need-pass-on-requires
-pass-on-requires c κs = search needs
+pass-with-requires : tie.Need-pass-with-requires
+pass-with-requires c κs = search needs
 
 returns : tie.Need-returns
 returns c = λ w ks.
@@ -55,7 +55,7 @@ returns-2 c = λ w ks.
     let p = c .before .before .before .before .before .before in
     let a = p .before .before .before .before .args in
     let found = p .check50 .ensures in
-    c .pass-on .ensures
+    c .pass-with .ensures
     ∙ behind R50 w (a .st) ks (a .r .now) _ (found .finding (a .st .file) ks) _
     (λ e. ap (λ (g : Group). passedOn R50 g (a .st .assignment .places) (a .st)) (c .before .group-with .ensures ∙ ap₂ (λ (t : ℕ) (x : Amount). groupedAs t x (a .st .assignment .group)) (c .before .before .code-at .ensures) (found .amount e)))
 
@@ -68,6 +68,6 @@ step50-spec =
     enum-told
     code-at-requires
     group-with-requires
-    pass-on-requires
+    pass-with-requires
     returns
     returns-2)

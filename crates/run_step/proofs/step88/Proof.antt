@@ -17,7 +17,7 @@ pass-on-requires c κs = search needs
 
 returns : tie.Need-returns
 returns c = λ w ks.
-    let a = c .before .before .before .before .before .args in
+    let a = c .before .before .before .before .args in
     c .pass-on .ensures ∙ behind R88 w (a .st) ks (a .r .now) _ (c .before .check88 .ensures (a .st .file) ks) _ (λ e. refl)
 
 pub step88-spec : {M : Type 1} → statement M

@@ -1,3 +1,6 @@
+use mathlib.Core.Path.{refl}
+use Rattle.rules.specs.declared.Kind.the-variants.{R10, R30, R31, R40, R49, R50, R88, R89}
+use Rattle.run_step.proofs.Steps.{took-on}
 use borrow.Author.Needs.{needs}
 use Rattle.run_step.proofs.step_for.Statement.{statement}
 use Rattle.run_step.proofs.step_for.Tie as tie
@@ -71,34 +74,42 @@ enum-told-10 : tie.Need-enum-told-10
 enum-told-10 c = search needs
 
 returns : tie.Need-returns
-returns c = rw (c .before .enum-told .given .1) (c .step30 .ensures _)
+returns c = rw (c .before .enum-told .given .1) (took-on _ R30 _ _ _ _ _ refl (c .step30 .ensures _))
 
 returns-2 : tie.Need-returns-2
-returns-2 c = rw (c .before .enum-told2 .given .1) (c .step31 .ensures _ _)
+returns-2 c = rw (c .before .enum-told2 .given .1) (took-on _ R31 _ _ _ _ _ refl (c .step31 .ensures _ _))
 
 returns-3 : tie.Need-returns-3
-returns-3 c = rw (c .before .enum-told3 .given .1) (c .step40 .ensures _ _)
+returns-3 c = rw (c .before .enum-told3 .given .1) (took-on _ R40 _ _ _ _ _ refl (c .step40 .ensures _ _))
 
 returns-4 : tie.Need-returns-4
-returns-4 c = rw (c .before .enum-told4 .given .1) (c .step49 .ensures _ _)
+returns-4 c = rw (c .before .enum-told4 .given .1) (took-on _ R49 _ _ _ _ _ refl (c .step49 .ensures _ _))
 
 returns-5 : tie.Need-returns-5
-returns-5 c = rw (c .before .enum-told5 .given .1) (c .step50 .ensures _ _)
+returns-5 c = rw (c .before .enum-told5 .given .1) (took-on _ R50 _ _ _ _ _ refl (c .step50 .ensures _ _))
 
 returns-6 : tie.Need-returns-6
-returns-6 c = rw (c .before .enum-told6 .given .1) (c .step88 .ensures _ _)
+returns-6 c = rw (c .before .enum-told6 .given .1) (took-on _ R88 _ _ _ _ _ refl (c .step88 .ensures _ _))
+
+same-length : tie.Need-same-length
+same-length c = search needs
+
+same-length-2 : tie.Need-same-length-2
+same-length-2 c = search needs
 
 returns-7 : tie.Need-returns-7
-returns-7 c = rw (c .before .enum-told7 .given .1) (c .step20 .ensures _)
+returns-7 c =
+    let x = c .before .before .before .before in
+    rw (x .before .before .before .enum-told7 .given .1) (x .step20 .ensures _)
 
 returns-8 : tie.Need-returns-8
-returns-8 c = rw (c .before .enum-told8 .given .1) (c .step10 .ensures _ _)
+returns-8 c = rw (c .before .enum-told8 .given .1) (took-on _ R10 _ _ _ _ _ refl (c .step10 .ensures _ _))
 
 returns-9 : tie.Need-returns-9
-returns-9 c = rw (c .before .enum-told9 .given .1) (c .step89 .ensures _ _)
+returns-9 c = rw (c .before .enum-told9 .given .1) (took-on _ R89 _ _ _ _ _ refl (c .step89 .ensures _ _))
 
 returns-10 : tie.Need-returns-10
-returns-10 c = absurd (c .before .before .before .before .pre .3 (c .enum-told10 .given .1))
+returns-10 c = absurd (c .before .before .before .before .before .pre .1 (c .enum-told10 .given .1))
 
 pub step-for-spec : {M : Type 1} → statement M
 step-for-spec =
@@ -129,6 +140,8 @@ step-for-spec =
     returns-4
     returns-5
     returns-6
+    same-length
+    same-length-2
     returns-7
     returns-8
     returns-9

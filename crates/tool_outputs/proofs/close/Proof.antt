@@ -1,51 +1,25 @@
-use Rattle.tool_outputs.specs.Filled.{Closed}
-use Rattle.tool_outputs.proofs.Sizes.{closed-filled}
-use mathlib.Core.Path.{sym, _∙_}
+-- Closing's promise, with the bytes of the file.
+-- Assumes nothing.
+use Rattle.tool_outputs.proofs.Sizes.{closed}
 use borrow.Author.Needs.{needs}
 use Rattle.tool_outputs.proofs.close.Statement.{statement}
 use Rattle.tool_outputs.proofs.close.Tie as tie
 use Rattle.tool_outputs.proofs.close.Reads as reads
 use Rattle.tool_outputs.proofs.close.Lts as lts
 use Rattle.close_draft.proofs.close.Reads as close-reads
-use Rattle.tool_outputs.proofs.size_of.Reads as size-of-reads
+use Rattle.tool_outputs.proofs.sized.Reads as sized-reads
 
 close-requires : tie.Need-close-requires
 close-requires c κs = search needs
 
-enum-known-refusal : tie.Need-enum-known-refusal
-enum-known-refusal c = search needs
-
-enum-known-t : tie.Need-enum-known-t
-enum-known-t c = search needs
-
-size-of-requires : tie.Need-size-of-requires
-size-of-requires c κs = search needs
+sized-requires : tie.Need-sized-requires
+sized-requires c κs = search needs
 
 same-length : tie.Need-same-length
 same-length c = search needs
 
 returns : tie.Need-returns
-unfolding Closed
-returns c = sym (c .before .before .before .before .before .close .ensures .0) ∙ c .before .refusal .given .1
-
-same-length-2 : tie.Need-same-length-2
-same-length-2 c = search needs
-
-returns-2 : tie.Need-returns-2
-unfolding Closed
-returns-2 c =
-    let e = sym (c .before .before .before .before .before .before .close .ensures .0) ∙ c .before .before .t .given .1 in
-    (e, closed-filled _ _ _ _ _ _ e (c .before .before .before .before .before .before .close .ensures .1) (c .size-of .ensures))
+returns c = closed _ _ _ _ _ _ (c .before .before .before .close .ensures) (c .sized .ensures)
 
 pub close-spec : {M : Type 1} → statement M
-close-spec =
-    tie.close
-    (tie.spec
-    close-requires
-    enum-known-refusal
-    enum-known-t
-    size-of-requires
-    same-length
-    returns
-    same-length-2
-    returns-2)
+close-spec = tie.close (tie.spec close-requires sized-requires same-length returns)

@@ -1,4 +1,4 @@
-use Rattle.tool_remedies.specs.Right.{digitOf, accountFor}
+use Rattle.tool_remedies.specs.Remedies.{digitOf, accountFor}
 use mathlib.Core.Path.{sym, ap, _∙_}
 use borrow.Author.Needs.{needs}
 use Rattle.tool_remedies.proofs.account.Statement.{statement}

@@ -1,5 +1,5 @@
 use Rattle.rules.specs.declared.Kind.the-variants.{R10}
-use Rattle.tool_walk.specs.Behind.{outsideOf}
+use Rattle.tool_walk.specs.Seen.{outsideOf}
 use mathlib.Core.Path.{ap}
 use Rattle.tool_walk.proofs.Grow.{room-record, not-both, typed}
 use borrow.Author.Tests.{not-true, not-false}

@@ -33,8 +33,8 @@ same-length c = search needs
 returns : tie.Need-returns
 returns c =
     let a = c .before .before .before .before .before .args in
-    part-back (a .out .now) (c .before .before .put-number .last .0) (a .at) (a .places)
-    ∙ ap (λ (x : List ℕ). take (a .at) (a .out .now) ++ (x ++ drop (a .at + a .places) (a .out .now))) (c .before .before .put-number .ensures ∙ ap (λ (x : ℕ). written x (a .n)) (part-length (a .out .now) (a .at) (a .places) (c .before .before .before .before .before .pre)))
+    part-back (a .out .now) (c .before .before .put-number .last .0) (a .at) (a .width)
+    ∙ ap (λ (x : List ℕ). take (a .at) (a .out .now) ++ (x ++ drop (a .at + a .width) (a .out .now))) (c .before .before .put-number .ensures ∙ ap (λ (x : ℕ). written x (a .n)) (part-length (a .out .now) (a .at) (a .width) (c .before .before .before .before .before .pre)))
 
 pub put-digits-spec : {M : Type 1} → statement M
 put-digits-spec =

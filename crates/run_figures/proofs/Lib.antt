@@ -1,0 +1,5 @@
+pub mod Slots
+pub mod Blocks
+pub mod Held
+pub mod Adding
+pub mod Assignments

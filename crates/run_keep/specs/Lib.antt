@@ -1,2 +1,0 @@
-pub mod Figured
-pub mod Kept
