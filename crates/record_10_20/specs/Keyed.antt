@@ -2,19 +2,15 @@
 -- Assumes nothing.
 use Prim.Native.Nat.{ℕ}
 use mathlib.Core.Path.{_≡_}
-use mathlib.Core.List.{List, [], _∷_, _++_}
+use mathlib.Core.List.{List, _++_}
 use Rattle.figures.specs.declared.totals.Totals.{Totals}
-use Rattle.layout.specs.Rules.{zeros}
-use Rattle.layout.specs.Rows.{Row, at, firstFault}
+use Rattle.layout.specs.Rows.{Row, firstFault}
 use Rattle.layout.specs.declared.Finding.the-variants.{Sound}
 use Rattle.rules.specs.Codes.{keyIn}
-use Rattle.rules.specs.Layouts.{key20, account20}
+use Rattle.rules.specs.Layouts.{key20, tail20}
 use Rattle.record_10_20.specs.declared.Keyed.{Keyed}
 
--- fields 7 and 8, and all that stands after field 3
-abbrev pub tail20 : List Row
-tail20 = account20 ++ (at 8 36 80 zeros ∷ [])
-
+-- all that stands after field 3
 abbrev pub rest20 : List ℕ → List Row
 rest20 r = key20 r ++ tail20
 

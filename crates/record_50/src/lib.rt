@@ -2,15 +2,14 @@
 
 ghost use mathlib.Core.Path.{_≡_};
 ghost use mathlib.Core.Bool.{true};
-ghost use mathlib.Core.List.{List, [], _∷_, _++_};
+ghost use mathlib.Core.List.{List, _++_};
 ghost use Prim.Native.Nat.{ℕ};
 ghost use lib.Dec.{eqb};
 ghost use lib.ListN.{length};
 ghost use Rattle.limits.specs.Limits.{recordBytes};
 ghost use Rattle.choice.specs.Choice.{if_then_else_};
-ghost use Rattle.layout.specs.Rules.{kid};
-ghost use Rattle.layout.specs.Rows.{at, firstFault, AllHold};
-ghost use Rattle.rules.specs.Layouts.{head50};
+ghost use Rattle.layout.specs.Rows.{firstFault, AllHold};
+ghost use Rattle.rules.specs.Layouts.{head50, kid50};
 ghost use Rattle.record_50.specs.Found.{AmountBy, SpecifiedBy};
 use field_digits::Digits;
 use figures::amounts::Amount;
@@ -63,7 +62,7 @@ fn headed(r: &[u8], a: Assignment) -> bool
 // Fields 1 to 6 of a record 50. Where all of it holds, no fault is looked for.
 fn referring(r: &[u8], a: Assignment) -> Finding
     requires { ⌜ length (now r) ≡ recordBytes ⌝ }
-    ensures { λ x. ⌜ ((f : Totals) (ks : List ℕ) → x ≡ firstFault f ks (now (r .entry)) (head50 a (now (r .entry)) ++ (at 6 16 40 kid ∷ []))) ⌝ }
+    ensures { λ x. ⌜ ((f : Totals) (ks : List ℕ) → x ≡ firstFault f ks (now (r .entry)) (head50 a (now (r .entry)) ++ kid50)) ⌝ }
 {
     if headed(r, a) & fields::kid_at(r, 16) {
         return Finding::Sound;

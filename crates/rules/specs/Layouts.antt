@@ -95,11 +95,12 @@ account20 =
     at 7 25 35 rightAccount ∷
     []
 
+-- fields 7 and 8 of 20
+abbrev pub tail20 : List Row
+tail20 = account20 ++ (at 8 36 80 zeros ∷ [])
+
 abbrev pub record20 : Assignment → List ℕ → List Row
-record20 a r =
-    mayOpen a ++ head20 ++ key20 r ++ account20 ++
-    (at 8 36 80 zeros ∷
-    [])
+record20 a r = mayOpen a ++ head20 ++ key20 r ++ tail20
 
 -- fields 1 to 3 of 30
 abbrev pub head30 : Assignment → List ℕ → List Row
@@ -188,6 +189,10 @@ record49 a r =
 abbrev pub head50 : Assignment → List ℕ → List Row
 head50 a r = belongs a r ++ (at 3 5 6 (listed ("16" ∷ "17" ∷ [])) ∷ sameNumber a r)
 
+-- field 6 of 50
+abbrev pub kid50 : List Row
+kid50 = at 6 16 40 kid ∷ []
+
 -- field 7 of 50, and the sum that it adds to: type 16 specifies, type 17 credits
 abbrev pub amount50 : List ℕ → ℕ
 amount50 r = numberIn specifiedField r
@@ -200,7 +205,7 @@ sum50 a r =
 
 abbrev pub record50 : Assignment → List ℕ → List Row
 record50 a r =
-    head50 a r ++ (at 6 16 40 kid ∷ []) ++ sum50 a r ++
+    head50 a r ++ kid50 ++ sum50 a r ++
     (at 8 58 80 zeros ∷
     [])
 

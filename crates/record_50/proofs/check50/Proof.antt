@@ -3,10 +3,10 @@
 use Prim.Native.Nat.{ℕ}
 use mathlib.Core.Path.{sym, _∙_}
 use mathlib.Core.List.{List, [], _∷_, _++_}
-use Rattle.layout.specs.Rules.{kid, zeros}
+use Rattle.layout.specs.Rules.{zeros}
 use Rattle.layout.specs.Rows.{Row, at}
 use Rattle.layout.proofs.Laws.{no-value, demands, ends-here, goes-on}
-use Rattle.rules.specs.Layouts.{head50, sum50}
+use Rattle.rules.specs.Layouts.{head50, kid50, sum50}
 use Rattle.rules.specs.declared.Assignment.{Assignment}
 use borrow.Author.Needs.{needs}
 use Rattle.record_50.proofs.check50.Statement.{statement}
@@ -21,7 +21,7 @@ use Rattle.record_50.proofs.unspecified.Reads as unspecified-reads
 
 -- fields 1 to 6, and field 8
 abbrev front : Assignment → List ℕ → List Row
-front a r = head50 a r ++ (at 6 16 40 kid ∷ [])
+front a r = head50 a r ++ kid50
 
 abbrev last : List Row
 last = at 8 58 80 zeros ∷ []

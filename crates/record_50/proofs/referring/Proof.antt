@@ -3,10 +3,9 @@
 use mathlib.Core.Path.{sym, _∙_}
 use mathlib.Core.List.{List, [], _∷_}
 use Rattle.fields.proofs.Tests.{and-left, and-right}
-use Rattle.layout.specs.Rules.{kid}
-use Rattle.layout.specs.Rows.{Row, at, AllHold}
+use Rattle.layout.specs.Rows.{AllHold}
 use Rattle.layout.proofs.Laws.{both-hold, demands, ends-here, goes-on}
-use Rattle.rules.specs.Layouts.{head50}
+use Rattle.rules.specs.Layouts.{head50, kid50}
 use borrow.Author.Needs.{needs}
 use Rattle.record_50.proofs.referring.Statement.{statement}
 use Rattle.record_50.proofs.referring.Tie as tie
@@ -16,9 +15,6 @@ use Rattle.fields.proofs.kid_at.Reads as kid-at-reads
 use Rattle.layout.proofs.Finding.demand.Reads as demand-reads
 use Rattle.record_50.proofs.headed.Reads as headed-reads
 use Rattle.record_50.proofs.heading.Reads as heading-reads
-
-abbrev reference : List Row
-reference = at 6 16 40 kid ∷ []
 
 headed-requires : tie.Need-headed-requires
 headed-requires c κs = search needs
@@ -32,7 +28,7 @@ returns c = λ f ks.
     let h = c .before .before .headed in
     let k = c .before .kid-at in
     let s = c .before .before .before .before .args in
-    both-hold f ks (s .r .now) (head50 (s .a) (s .r .now)) reference (h .ensures (and-left (h .result) (k .result) (c .if1 .taken)) f ks)
+    both-hold f ks (s .r .now) (head50 (s .a) (s .r .now)) kid50 (h .ensures (and-left (h .result) (k .result) (c .if1 .taken)) f ks)
     (sym (k .ensures) ∙ and-right (h .result) (k .result) (c .if1 .taken), tt)
 
 heading-requires : tie.Need-heading-requires
@@ -47,7 +43,7 @@ enum-told-2 c = search needs
 returns-2 : tie.Need-returns-2
 returns-2 c = λ f ks.
     let s = c .before .before .before .before .before .before .before .args in
-    ends-here f ks (s .r .now) (head50 (s .a) (s .r .now)) reference (c .before .before .heading .ensures f ks) (c .enum-told2 .given .1)
+    ends-here f ks (s .r .now) (head50 (s .a) (s .r .now)) kid50 (c .before .before .heading .ensures f ks) (c .enum-told2 .given .1)
 
 kid-at-requires-2 : tie.Need-kid-at-requires-2
 kid-at-requires-2 c κs = search needs
@@ -60,8 +56,8 @@ returns-3 c = λ f ks.
     let p = c .before .before in
     let s = p .before .before .before .before .before .before .before .args in
     let sound = p .enum-told .given .1 in
-    goes-on f ks (s .r .now) (head50 (s .a) (s .r .now)) reference (p .before .before .heading .ensures f ks) sound
-    (simp (c .demand .ensures, c .before .kid-at2 .ensures, sound) (sym (demands f ks (s .r .now) reference)))
+    goes-on f ks (s .r .now) (head50 (s .a) (s .r .now)) kid50 (p .before .before .heading .ensures f ks) sound
+    (simp (c .demand .ensures, c .before .kid-at2 .ensures, sound) (sym (demands f ks (s .r .now) kid50)))
 
 pub referring-spec : {M : Type 1} → statement M
 referring-spec =
