@@ -1,0 +1,114 @@
+/* pay.h: the pay office's four operations for programs in C99, and for what can call C.
+ *
+ * The archive libpay_c.a has them. README.md, "For programs", says how it is made and linked, and examples/c has a program.
+ * docs/FORMAT.md says what a file is, record by record.
+ *
+ * What goes in. Any bytes and any numbers may be handed in: there is nothing that a caller has to look at first. Each call ends,
+ * with an answer or with one numbered refusal.
+ *     year, month, day   the process day: 2025, 10, 1. It is always given; nothing is taken from a clock.
+ *     file, draft        the bytes of a whole file or draft, and how many they are. They are read and never changed.
+ *     out                room for what is written, lent for the call, and how many bytes it has.
+ *     answer             sixteen numbers, all of them written by every call.
+ *
+ * What comes out. The answer's places are named below; a place that does not apply is 0.
+ *     accepted   the figures of the file that was checked or written; place PAY_WRITTEN has how many bytes of out are the file.
+ *     parted     places PAY_WRITTEN and PAY_WRITTEN_SECOND have how many bytes of the two outputs are the parts.
+ *     refused    number, operand, record and field of the first fault. No byte of an output was changed.
+ * Bytes of an output behind what was written stay as they were. Sums are in hundredths of a krone (80000 is 800.00 kroner).
+ * A date is the number year * 10000 + month * 100 + day: 20251101 is 1 November 2025.
+ *
+ * Memory. An output must not overlap an input, the other output or the answer; inputs may overlap, or be the same.
+ * A length of 0 may go with any pointer, NULL too. Any other pointer is to as many bytes as its length says, and answer is to sixteen numbers.
+ * A call needs at most PAY_STACK bytes of stack, takes no memory from the heap, opens nothing and prints nothing.
+ * Nothing is shared between calls, so threads may call at the same time, each with outputs and an answer of its own.
+ */
+#ifndef PAY_H
+#define PAY_H
+
+#include <stdint.h>
+
+#ifdef __cplusplus
+extern "C" {
+#endif
+
+/* ---- limits */
+enum {
+    PAY_RECORD_BYTES = 81,       /* a record: 80 characters and a line feed */
+    PAY_MOST_RECORDS = 200000,   /* of a file */
+    PAY_MOST_ASSIGNMENTS = 500,  /* of a file */
+    PAY_MOST_BYTES = 16200000,   /* of a file; an output of this length is never too short */
+    PAY_STACK = 32768            /* bytes of stack that a call needs at most */
+};
+
+/* ---- the places of an answer */
+enum {
+    PAY_WHAT = 0,             /* one of the three below */
+    PAY_NUMBER = 1,           /* of a refusal: its number, one of those below */
+    PAY_OPERAND = 2,          /* of a refusal by pay_join: 1 the first file, 2 the second, 0 both or the joined one; else 0 */
+    PAY_RECORD = 3,           /* of a refusal: the record, counted from 1; 0 for the whole file */
+    PAY_FIELD = 4,            /* of a refusal: the field, counted from 1 as in docs/FORMAT.md; 0 for the whole record */
+    PAY_ASSIGNMENTS = 5,      /* accepted: how many assignments */
+    PAY_TRANSACTIONS = 6,     /* accepted: how many transactions */
+    PAY_RECORDS = 7,          /* accepted: how many records */
+    PAY_SUM = 8,              /* accepted: the sum, in hundredths of a krone */
+    PAY_FIRST_DATE = 9,       /* accepted: the first date, as 20251101 */
+    PAY_WRITTEN = 10,         /* accepted: bytes written into out; parted: bytes written into the first output */
+    PAY_WRITTEN_SECOND = 15,  /* parted: bytes written into the second output */
+    PAY_ANSWER = 16           /* how many numbers an answer has; places 11 to 14 are 0 */
+};
+
+/* ---- what an answer is */
+enum {
+    PAY_REFUSED = 0,
+    PAY_ACCEPTED = 1,
+    PAY_PARTED = 2
+};
+
+/* ---- the number of a refusal, and what it means */
+enum {
+    PAY_NO_PROCESS_DAY = 1,         /* the process day is not a date */
+    PAY_BAD_LENGTH = 2,             /* the file is empty, or does not consist of whole records of 81 bytes */
+    PAY_TOO_MANY_RECORDS = 3,       /* there are more than 200,000 records */
+    PAY_NO_LINE_FEED = 4,           /* no line feed stands behind the 80 characters of the record */
+    PAY_OUT_OF_ORDER = 5,           /* a record of this type may not stand here */
+    PAY_ENDS_EARLY = 6,             /* the file ends too early, a record is missing */
+    PAY_BAD_FIXED = 7,              /* a fixed text, code, line or column is wrong */
+    PAY_BAD_FORM = 8,               /* the field has the wrong form */
+    PAY_NO_DATE = 9,                /* this is not a date */
+    PAY_NOT_IN_TIME = 10,           /* the date is too late or too early */
+    PAY_BAD_ACCOUNT = 11,           /* the account's last digit is wrong */
+    PAY_DISAGREES = 12,             /* service, type or transaction number disagrees with the records before */
+    PAY_PAST_LIMIT = 13,            /* an amount or a sum is past its limit, or is 0 for type 16 */
+    PAY_BAD_SPECIFICATION = 14,     /* the records 50 before do not add up to the amount of their record 30 */
+    PAY_ASSIGNMENT_TWICE = 15,      /* agreement and assignment number stood before */
+    PAY_TOO_MANY_ASSIGNMENTS = 16,  /* there are more than 500 assignments */
+    PAY_PLACE_TAKEN = 17,           /* this line and column of the message was taken before */
+    PAY_BAD_FIGURE = 18,            /* an end record's figure is wrong */
+    PAY_OUTPUT_TOO_SHORT = 19,      /* the output is too short */
+    PAY_SENDERS_DIFFER = 20,        /* the two files have different senders */
+    PAY_NO_BOUNDARY = 21            /* the file cannot be parted there */
+};
+
+/* ---- the operations */
+
+/* Is this file as the clearing house wants it? PAY_ACCEPTED with the file's figures, or PAY_REFUSED. Nothing is written but the answer. */
+void pay_check(uint64_t year, uint64_t month, uint64_t day, const uint8_t *file, uint64_t file_length, uint64_t answer[PAY_ANSWER]);
+
+/* Adds the end records 88 and 89 to a draft. PAY_ACCEPTED with the written file's figures, or PAY_REFUSED; records are counted in the draft.
+ * Room needed: PAY_RECORD_BYTES for each record of the draft, for each of its assignments, and for the 89. 2 * draft_length + PAY_RECORD_BYTES is always enough. */
+void pay_close(uint64_t year, uint64_t month, uint64_t day, const uint8_t *draft, uint64_t draft_length, uint8_t *out, uint64_t out_length, uint64_t answer[PAY_ANSWER]);
+
+/* Makes one file of two: the first file's record 10, the assignments of both, and a new 89. PAY_ACCEPTED with the written file's figures, or PAY_REFUSED.
+ * Room needed: first_length + second_length - 2 * PAY_RECORD_BYTES. */
+void pay_join(uint64_t year, uint64_t month, uint64_t day, const uint8_t *first, uint64_t first_length, const uint8_t *second, uint64_t second_length, uint8_t *out, uint64_t out_length, uint64_t answer[PAY_ANSWER]);
+
+/* Makes two files of one: the first k assignments go to the first output, the others to the second. PAY_PARTED, which has no figures, or PAY_REFUSED.
+ * A part has the record 10, its assignments and an 89 of its own. So its length is PAY_RECORD_BYTES * (2 + the records of its assignments),
+ * and both lengths together are file_length + 2 * PAY_RECORD_BYTES. Room needed: these lengths; file_length bytes for each are always enough. */
+void pay_part(uint64_t year, uint64_t month, uint64_t day, const uint8_t *file, uint64_t file_length, uint64_t k, uint8_t *first, uint64_t first_length, uint8_t *second, uint64_t second_length, uint64_t answer[PAY_ANSWER]);
+
+#ifdef __cplusplus
+}
+#endif
+
+#endif
