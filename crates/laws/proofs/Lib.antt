@@ -22,6 +22,7 @@ pub mod Three
 pub mod Joining
 pub mod Cuts
 pub mod Parting
+pub mod Saved
 pub mod OneAnswer
 pub mod Slices
 pub mod Tells

@@ -7,3 +7,4 @@ pub mod View
 pub mod Joinable
 pub mod Partable
 pub mod Tells
+pub mod Saved

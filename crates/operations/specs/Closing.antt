@@ -39,9 +39,13 @@ toWrite rs = length rs + openings rs + 1
 abbrev pub closedFigures : Totals → Totals
 closedFigures t = withRecords 1 (withRecords (t .assignments .0) t)
 
+-- how many bytes a file of these figures has
+abbrev pub fileBytes : Totals → ℕ
+fileBytes t = recordBytes * (t .records .0)
+
 -- where a file of these figures can be written: 19 if the output is too short for it
 abbrev pub given : ℕ → Totals → Verdict
-given room t = if leb (recordBytes * (t .records .0)) room then Accepted t else refused 19 0 0 0
+given room t = if leb (fileBytes t) room then Accepted t else refused 19 0 0 0
 
 abbrev pub onAccepted : Verdict → (Totals → Verdict) → Verdict
 onAccepted (Accepted t) f = f t

@@ -7,7 +7,7 @@ use lib.ListN.{length}
 use Rattle.dates.specs.declared.ProcessDay.{ProcessDay}
 use Rattle.rules.specs.Run.{checkOf}
 use Rattle.rules.specs.declared.Verdict.{Verdict}
-use Rattle.operations.specs.Answers.{numbers, partedNumbers}
+use Rattle.operations.specs.Answers.{checkedNumbers, writtenNumbers, partedNumbers}
 use Rattle.operations.specs.Closing.{closeOf, closedBytes}
 use Rattle.operations.specs.Joining.{joinOf, joinedBytes}
 use Rattle.operations.specs.Parting.{partOf, partedFirst, partedSecond}
@@ -34,14 +34,14 @@ pub record PartPromise (day : ProcessDay) (file : List ℕ) (k : ℕ) (out1 out2
 
 -- ---- for a program in C or Rust: the answer as numbers, and the same bytes
 pub record CheckNumbers (day : ProcessDay) (file answer : List ℕ) : Type 0 where
-  pub answers : answer ≡ numbers (checkOf day file)
+  pub answers : answer ≡ checkedNumbers (checkOf day file)
 
 pub record CloseNumbers (day : ProcessDay) (draft out answer after : List ℕ) : Type 0 where
-  pub answers : answer ≡ numbers (closeOf day draft (length out))
+  pub answers : answer ≡ writtenNumbers (closeOf day draft (length out))
   pub leaves : after ≡ closedBytes day draft out
 
 pub record JoinNumbers (day : ProcessDay) (first second out answer after : List ℕ) : Type 0 where
-  pub answers : answer ≡ numbers (joinOf day first second (length out))
+  pub answers : answer ≡ writtenNumbers (joinOf day first second (length out))
   pub leaves : after ≡ joinedBytes day first second out
 
 pub record PartNumbers (day : ProcessDay) (file : List ℕ) (k : ℕ) (out1 out2 answer after1 after2 : List ℕ) : Type 0 where

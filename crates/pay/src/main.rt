@@ -1,5 +1,8 @@
 // The office's tool over whole files: pay check, close, join and part.
 
+ghost use Prim.Native.Nat.{_≤_};
+ghost use lib.ListN.{length};
+ghost use Rattle.operations.specs.Closing.{fileBytes};
 use figures::counts::Count;
 use figures::totals::Totals;
 use limits::MOST_RECORDS;
@@ -10,7 +13,6 @@ use rules::Verdict;
 use tool_command as asked;
 use tool_command::Command;
 use tool_explain::answers;
-use tool_outputs::Output;
 use tool_phrases::help;
 
 // A file of full size and a record more, which the rules refuse.
@@ -23,26 +25,29 @@ fn check(file: &[u8]) {
     }
 }
 
-// A written file of these figures goes to the name that the argument gives.
-fn keep(argument: usize, bytes: &[u8], t: Totals) {
+// The file of these figures, which was written into an output, goes to the name that the argument gives.
+fn keep(argument: usize, out: &[u8], t: Totals)
+    requires { ⌜ fileBytes t ≤ length (now out) ⌝ }
+{
     let mut name = io::buffer();
     let n = os::arg(argument, &mut name);
-    if tool_files::save(&name[..n], bytes) {
+    let records = t.records;
+    if tool_files::save(&name[..n], operations::file_in(out, records)) {
         answers::tell_accepted(t);
     }
 }
 
 fn close(draft: &[u8], out: &mut [u8]) {
-    match tool_outputs::close(asked::day(), draft, out) {
-        Output::Refused(x) => answers::tell_refused(x, Mode::Draft, draft),
-        Output::File(size, t) => keep(4, &out[..size], t),
+    match close_draft::close(asked::day(), draft, out) {
+        Verdict::Accepted(t) => keep(4, out, t),
+        Verdict::Refused(x) => answers::tell_refused(x, Mode::Draft, draft),
     }
 }
 
 fn join(first: &[u8], second: &[u8], out: &mut [u8]) {
-    match tool_outputs::join(asked::day(), first, second, out) {
-        Output::Refused(x) => answers::tell_which(x, first, second),
-        Output::File(size, t) => keep(5, &out[..size], t),
+    match join_files::join(asked::day(), first, second, out) {
+        Verdict::Accepted(t) => keep(5, out, t),
+        Verdict::Refused(x) => answers::tell_which(x, first, second),
     }
 }
 
@@ -81,7 +86,7 @@ fn tell_boundaries(assignments: Count, file: &[u8]) {
 }
 
 fn part(file: &[u8], first: &mut [u8], second: &mut [u8]) {
-    match tool_outputs::part(asked::day(), file, asked::boundary(), first, second) {
+    match part_file::part(asked::day(), file, asked::boundary(), first, second) {
         Parting::NotParted(x) => answers::tell_refused(x, Mode::File, file),
         Parting::NoBoundary(assignments) => tell_boundaries(assignments, file),
         Parting::Parted(a, b) => keep_parts(&first[..a], &second[..b]),

@@ -112,6 +112,14 @@ pub fn say_missing(number: u8, mode: Mode, before: &[u8]) {
     }
 }
 
+// A figure that is put right to match a wrong payment lets that payment pass: the payments come first.
+fn say_caution(number: u8) {
+    if number == 18 {
+        say(b"Either a payment above was changed, lost or added, or this figure is wrong.\n");
+        say(b"Compare the payments with your list before you touch the figure.\n");
+    }
+}
+
 // What would be right in a refused record, where the rules know it.
 pub fn say_right(x: Refusal, mode: Mode, before: &[u8], r: &[u8]) {
     if x.number == 5 {
@@ -119,6 +127,7 @@ pub fn say_right(x: Refusal, mode: Mode, before: &[u8], r: &[u8]) {
         say_of_draft(mode);
         return;
     }
+    say_caution(x.number);
     say_remedy(
         x.number,
         tool_remedies::remedy_for(x.number, x.field, before, r),

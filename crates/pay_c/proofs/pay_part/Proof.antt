@@ -7,13 +7,13 @@ use Rattle.pay_c.proofs.pay_part.Tie as tie
 use Rattle.pay_c.proofs.pay_part.Reads as reads
 use Rattle.pay_c.proofs.pay_part.Lts as lts
 use Rattle.part_file.proofs.part.Reads as part-reads
-use Rattle.pay_c.proofs.tell_parting.Reads as tell-parting-reads
+use Rattle.pay_c.proofs.tell_parted.Reads as tell-parted-reads
 
 part-requires : tie.Need-part-requires
 part-requires c κs = search needs
 
-tell-parting-requires : tie.Need-tell-parting-requires
-tell-parting-requires c κs = search needs
+tell-parted-requires : tie.Need-tell-parted-requires
+tell-parted-requires c κs = search needs
 
 same-length : tie.Need-same-length
 same-length c = search needs
@@ -24,8 +24,8 @@ same-length-2 c = search needs
 returns : tie.Need-returns
 returns c =
     let x = c .before .before .before .before .before .before .part .ensures in
-    record { answers = c .tell-parting .ensures ∙ ap partedNumbers (x .answers); leaves-first = x .leaves-first; leaves-second = x .leaves-second }
+    record { answers = c .tell-parted .ensures ∙ ap partedNumbers (x .answers); leaves-first = x .leaves-first; leaves-second = x .leaves-second }
 
 pub pay-part-spec : {M : Type 1} → statement M
 pay-part-spec =
-    tie.close (tie.spec part-requires tell-parting-requires same-length same-length-2 returns)
+    tie.close (tie.spec part-requires tell-parted-requires same-length same-length-2 returns)
