@@ -1,4 +1,6 @@
-use Rattle.tool_outputs.proofs.Sizes.{parts-count}
+use mathlib.Core.Path.{sym}
+use lib.Seq.{length-take-le}
+use Rattle.laws.proofs.Saved.{parted-saved}
 use borrow.Author.Needs.{needs}
 use Rattle.pay.proofs.part.Statement.{statement}
 use Rattle.pay.proofs.part.Tie as tie
@@ -9,7 +11,7 @@ use Rattle.pay.proofs.tell_boundaries.Reads as tell-boundaries-reads
 use Rattle.tool_command.proofs.boundary.Reads as boundary-reads
 use Rattle.tool_command.proofs.day.Reads as day-reads
 use Rattle.tool_explain.proofs.answers.tell_refused.Reads as tell-refused-reads
-use Rattle.tool_outputs.proofs.part.Reads as part-reads
+use Rattle.part_file.proofs.part.Reads as part-reads
 
 day-requires : tie.Need-day-requires
 day-requires c κs = search needs
@@ -36,16 +38,16 @@ enum-known-a : tie.Need-enum-known-a
 enum-known-a c = search needs
 
 slice-reshare-prefix-keep-parts : tie.Need-slice-reshare-prefix-keep-parts
-slice-reshare-prefix-keep-parts c = parts-count _ _ _ _ _ _ _ _ _ _ (c .before .before .before .before .before .before .before .part .ensures) (c .before .a .given .1) .0 .0
+slice-reshare-prefix-keep-parts c = parted-saved _ _ _ _ _ _ _ _ _ _ (c .before .before .before .before .before .before .before .part .ensures) (c .before .a .given .1) .0 .fits
 
 slice-aggregate-keep-parts : tie.Need-slice-aggregate-keep-parts
-slice-aggregate-keep-parts c = parts-count _ _ _ _ _ _ _ _ _ _ (c .before .before .before .before .before .before .before .before .part .ensures) (c .before .before .a .given .1) .0 .1
+slice-aggregate-keep-parts c = sym (length-take-le _ _ (parted-saved _ _ _ _ _ _ _ _ _ _ (c .before .before .before .before .before .before .before .before .part .ensures) (c .before .before .a .given .1) .0 .fits))
 
 slice-reshare-prefix-keep-parts-2 : tie.Need-slice-reshare-prefix-keep-parts-2
-slice-reshare-prefix-keep-parts-2 c = parts-count _ _ _ _ _ _ _ _ _ _ (c .before .before .before .before .before .before .before .before .part .ensures) (c .before .before .a .given .1) .1 .0
+slice-reshare-prefix-keep-parts-2 c = parted-saved _ _ _ _ _ _ _ _ _ _ (c .before .before .before .before .before .before .before .before .part .ensures) (c .before .before .a .given .1) .1 .fits
 
 slice-aggregate-keep-parts-2 : tie.Need-slice-aggregate-keep-parts-2
-slice-aggregate-keep-parts-2 c = parts-count _ _ _ _ _ _ _ _ _ _ (c .before .before .before .before .before .before .before .before .before .part .ensures) (c .before .before .before .a .given .1) .1 .1
+slice-aggregate-keep-parts-2 c = sym (length-take-le _ _ (parted-saved _ _ _ _ _ _ _ _ _ _ (c .before .before .before .before .before .before .before .before .before .part .ensures) (c .before .before .before .a .given .1) .1 .fits))
 
 keep-parts-requires : tie.Need-keep-parts-requires
 keep-parts-requires c κs = search needs
