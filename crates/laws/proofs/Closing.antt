@@ -3,9 +3,9 @@
 -- Assumes nothing.
 use Prim.Native.Nat.{ℕ, _+_, _*_, _/_, _≤_, _<_}
 use mathlib.Core.Path.{_≡_, refl, sym, ap, subst, _∙_}
-use mathlib.Core.Logic.{_↔_}
+use mathlib.Core.Logic.{_↔_, _⊎_, inl, inr}
 use mathlib.Core.List.{List, [], _∷_, _++_}
-use mathlib.Core.Bool.{true, false, false≢true}
+use mathlib.Core.Bool.{Bool, true, false, false≢true}
 use native.Mathlib.Nat.{add-zero}
 use native.Mathlib.Omega.{arith}
 use borrow.Author.Tests.{ltb-true}
@@ -19,13 +19,14 @@ use Rattle.figures.specs.declared.totals.Totals.{Totals}
 use Rattle.figures.proofs.Laws.{none-⊕}
 use Rattle.rules.specs.Order.{mayEnd}
 use Rattle.rules.specs.Growth.{start}
+use Rattle.choice.specs.Choice.{if_then_else_}
 use Rattle.limits.specs.Limits.{recordBytes, mostRecords}
 use Rattle.rules.specs.Run.{recordsOf, checkOf}
 use Rattle.rules.specs.declared.Mode.the-variants.{File, Draft}
 use Rattle.rules.specs.declared.Refusal.{Refusal}
 use Rattle.rules.specs.declared.Verdict.{Verdict}
 use Rattle.rules.specs.declared.Verdict.the-variants.{Accepted, Refused}
-use Rattle.operations.specs.Closing.{openings, toWrite, closedFigures, closeOf, withEnds, bytesOf, closedFile, lentAfter, closedBytes}
+use Rattle.operations.specs.Closing.{opens, openings, toWrite, closedFigures, closeOf, withEnds, bytesOf, closedFile, lentAfter, closedBytes}
 use Rattle.laws.specs.Meets.{gains, turns, Meets, Ends, Lawful}
 use Rattle.laws.specs.Plain.{FiguresOf}
 use Rattle.laws.specs.View.{Sized}
@@ -251,6 +252,24 @@ closed-with day d room t = (there, back)
 
     back : LawfulDraft day d × (recordBytes * toWrite (recordsOf d) ≤ room) × FiguresOf (recordsOf (closedFile d)) t → closeOf day d room ≡ Accepted t
     back v = let u = room-and-sound day d room (v .0, v .1) in u .1 ∙ ap Accepted (one-figures _ (u .0) t (closed-figures day d room (u .0) (u .1)) (v .2))
+
+-- the room that is always enough: that of twice the draft and the 89, or that of a file of full size
+few-openings : (rs : List (List ℕ)) → openings rs ≤ length rs
+unfolding openings
+few-openings [] = omega arith
+few-openings (r ∷ rs) = go (opens r) (few-openings rs)
+  where
+    go : (x : Bool) → openings rs ≤ length rs → (if x then 1 else 0) + openings rs ≤ length (r ∷ rs)
+    go true h = omega (arith, h)
+    go false h = omega (arith, h)
+
+pub close-room-enough : (day : ProcessDay) (d : List ℕ) (room : ℕ) → (2 * length d + recordBytes ≤ room) ⊎ (recordBytes * mostRecords ≤ room) → LawfulDraft day d
+    → (t : Totals) × (closeOf day d room ≡ Accepted t)
+close-room-enough day d room h l = draft-closes-exactly day d room .1 (l, fits h)
+  where
+    fits : (2 * length d + recordBytes ≤ room) ⊎ (recordBytes * mostRecords ≤ room) → recordBytes * toWrite (recordsOf d) ≤ room
+    fits (inl p) = omega (arith, p, few-openings (recordsOf d), record-count d)
+    fits (inr p) = omega (arith, p, l .few)
 
 -- a refusal names the first reason in the stated order
 pub close-order : (day : ProcessDay) (d : List ℕ) (room : ℕ) (x : Refusal) → (closeOf day d room ≡ Refused x) ↔ CloseRefusing day d room (Refused x)

@@ -180,6 +180,8 @@ module _ (w : Window) (b : List ℕ) (t : Totals) (k : ℕ) (v : View w b t) (h 
         both-lengths =
             omega
             (arith, lx, ly, view-length w b t v, view-records w b t v, n, view-records w (firstPart k b) x first-view, view-records w (secondPart k b) y second-view);
+        first-shorter = omega (arith, lx, view-length w b t v, view-records w b t v, n, view-records w (firstPart k b) x first-view);
+        second-shorter = omega (arith, ly, view-length w b t v, view-records w b t v, n, view-records w (secondPart k b) y second-view);
       }
 
   -- and joined they are the file again
@@ -212,6 +214,14 @@ module _ (day : ProcessDay) (b : List ℕ) (t : Totals) (k room1 room2 n m : ℕ
   -- together they are a record 10 and an 89 longer than the file, and each fits into its output
   pub parted-fits : (length (firstPart k b) + length (secondPart k b) ≡ length b + 2 * recordBytes) × (length (firstPart k b) ≤ room1) × (length (secondPart k b) ≤ room2)
   parted-fits = let v = at-boundary day b t k room1 room2 e n m h in (parted-accepted .both-lengths, v .1, v .2)
+
+-- outputs as long as the file are always enough
+pub part-room-enough : (day : ProcessDay) (b : List ℕ) (t : Totals) (k room1 room2 : ℕ) → checkOf day b ≡ Accepted t → Boundary k t → length b ≤ room1 → length b ≤ room2
+    → partOf day b k room1 room2 ≡ Parted (length (firstPart k b)) (length (secondPart k b))
+part-room-enough day b t k room1 room2 e h p q =
+    let a = accepting day b t e in
+    let c = parts-accepted (a .window) b t k (view day (a .window) b t (a .opened) e) h day (a .opened) in
+    parted-exactly day b t k room1 room2 e (omega (arith, p, c .first-shorter)) (omega (arith, q, c .second-shorter)) .1 h
 
 -- a file parted and joined again is the file, with its figures
 pub parted-joins : (day : ProcessDay) (b : List ℕ) (t : Totals) (k room : ℕ) → checkOf day b ≡ Accepted t → 1 ≤ k → k < t .assignments .0 → length b ≤ room

@@ -38,3 +38,5 @@ pub record PartsAccepted (day : ProcessDay) (b : List ℕ) (k : ℕ) (t : Totals
   pub first-length : length (firstPart k b) ≡ recordBytes * first .records .0
   pub second-length : length (secondPart k b) ≡ recordBytes * second .records .0
   pub both-lengths : length (firstPart k b) + length (secondPart k b) ≡ length b + 2 * recordBytes
+  pub first-shorter : length (firstPart k b) ≤ length b
+  pub second-shorter : length (secondPart k b) ≤ length b
