@@ -4,8 +4,9 @@
 use reference::answer::{Answer, PLACES};
 use reference::cases::{Case, Operation};
 
-/// Nothing of this is a number that an operation could leave standing.
-const UNANSWERED: Answer = [0xAAAA_AAAA_AAAA_AAAA; PLACES];
+/// What a place has before it is written: no number that an operation gives.
+pub const UNWRITTEN: u64 = 0xAAAA_AAAA_AAAA_AAAA;
+const UNANSWERED: Answer = [UNWRITTEN; PLACES];
 
 // As include/pay.h has them, parameter by parameter; tests/header.rs holds them to it.
 #[allow(dead_code)]

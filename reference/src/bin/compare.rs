@@ -101,9 +101,12 @@ fn report_answers(expected: &Answer, found: &Answer) {
     for place in 0..PLACES {
         let named = Place::ALL.into_iter().find(|&named| named as usize == place);
         let name = named.map_or("(always 0)".into(), |named| format!("{named:?}"));
-        let (expected, found) = (expected[place], found[place]);
-        let mark = if expected == found { "" } else { "  differs" };
-        println!("{place:>5} {name:<13} {expected:>17} {found:>20}{mark}");
+        let mark = if expected[place] == found[place] { "" } else { "  differs" };
+        let found = match found[place] {
+            archive::UNWRITTEN => "not written".into(),
+            number => number.to_string(),
+        };
+        println!("{place:>5} {name:<13} {:>17} {found:>20}{mark}", expected[place]);
     }
 }
 
