@@ -38,26 +38,38 @@ pub fn prototypes(text: &str) -> Vec<Prototype> {
     bare(text).split(';').filter_map(prototype).collect()
 }
 
-/// The names of each `enum` with their numbers, in their order. A name without
-/// a number of its own is left out.
+/// The names of an `enum` with their numbers. One without a number of its own
+/// has one more than the name before it.
+fn numbered(body: &str) -> Vec<(String, u64)> {
+    let mut next = 0;
+    let entries = body.split(',').map(str::trim).filter(|entry| !entry.is_empty());
+    let numbered = entries.map(|entry| {
+        let (name, number) = entry.split_once('=').unwrap_or((entry, ""));
+        let number = match number.trim() {
+            "" => next,
+            number => number.parse().expect("a number"),
+        };
+        next = number + 1;
+        (name.trim().to_string(), number)
+    });
+    numbered.collect()
+}
+
+/// The names of each `enum` with their numbers, in their order.
 pub fn enumerations(text: &str) -> Vec<Vec<(String, u64)>> {
-    let named = |entry: &str| {
-        let (name, number) = entry.split_once('=')?;
-        Some((name.trim().to_string(), number.trim().parse().ok()?))
-    };
     let text = bare(text);
     let bodies = text.split("enum").skip(1).filter_map(|behind| {
         let (_, body) = behind.split_once('{')?;
         body.split_once('}').map(|(body, _)| body)
     });
-    bodies.map(|body| body.split(',').filter_map(named).collect()).collect()
+    bodies.map(numbered).collect()
 }
 
 #[cfg(test)]
 mod tests {
     use super::*;
 
-    const TEXT: &str = "/* one; two( */\n#define X (1)\nextern \"C\" {\nenum { A = 1, /* B = 2, */ C = 3 };\n\
+    const TEXT: &str = "/* one; two( */\n#define X (1)\nextern \"C\" {\nenum { A = 1, /* B = 2, */ C = 3, D };\n\
         void f(uint64_t a,\n  const uint8_t *b); /* g(); */\nuint64_t h(void);\n}\n";
 
     #[test]
@@ -70,6 +82,6 @@ mod tests {
 
     #[test]
     fn numbers() {
-        assert_eq!(enumerations(TEXT), [[("A".into(), 1), ("C".into(), 3)]]);
+        assert_eq!(enumerations(TEXT), [[("A".into(), 1), ("C".into(), 3), ("D".into(), 4)]]);
     }
 }

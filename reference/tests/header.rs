@@ -79,8 +79,9 @@ fn declarations() -> Vec<String> {
 #[test]
 fn declarations_are_the_prototypes() {
     let prototypes: Vec<String> = prototypes(HEADER).iter().map(declaration).collect();
-    assert!(!prototypes.is_empty());
     assert_eq!(declarations(), prototypes);
+    let told = HEADER.matches("answer[PAY_ANSWER]);").count();
+    assert!(told > 0 && told == prototypes.len(), "{told} prototypes by another look");
 }
 
 /// A pointer to bytes goes with their number, and the answer comes last.
