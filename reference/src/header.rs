@@ -18,7 +18,8 @@ fn bare(text: &str) -> String {
         rest = comment.split_once("*/").map_or("", |(_, behind)| behind);
     }
     code += rest;
-    code.lines().filter(|line| !line.starts_with('#')).flat_map(|line| [line, "\n"]).collect()
+    let lines = code.lines().filter(|line| !line.trim_start().starts_with('#'));
+    lines.flat_map(|line| [line, "\n"]).collect()
 }
 
 /// The words of a text with single blanks between them.
