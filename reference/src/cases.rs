@@ -1,11 +1,12 @@
 //! Cases by chance: what an operation is asked, sound or damaged. The same
 //! seed and index make the same case on every machine.
 
+use crate::answer::{self, Answer};
 use crate::damage::damage;
 use crate::random::Random;
 use crate::records::{self, closed, count, file_of, long_file};
 use crate::sample::{DAY, Plan, days, sound_draft};
-use crate::{Accepted, Day, RECORD, Refused, Variant};
+use crate::{Day, RECORD, Variant};
 
 #[derive(Clone, Copy, Debug, PartialEq, Eq)]
 pub enum Operation {
@@ -46,34 +47,15 @@ impl Case {
     }
 }
 
-/// What (0 refused, 1 accepted, 2 parted), number, operand, record, field,
-/// assignments, transactions, records, sum, first date; 0 where it does not apply.
-pub type Answer = [u64; 10];
-
-fn accepted(figures: Accepted) -> Answer {
-    let Accepted { assignments, transactions, records, sum, first_date } = figures;
-    let [assignments, transactions, records, first_date] =
-        [assignments, transactions, records, first_date].map(u64::from);
-    [1, 0, 0, 0, 0, assignments, transactions, records, sum, first_date]
-}
-
-fn refused(refused: Refused) -> Answer {
-    let Refused { number, operand, record, field } = refused;
-    [0, number.into(), operand.into(), record.into(), field.into(), 0, 0, 0, 0, 0]
-}
-
 /// The answer of a variant, the outputs being lent to it.
 pub fn answer(case: &Case, variant: Variant, out1: &mut [u8], out2: &mut [u8]) -> Answer {
     let Case { operation, day, first, second, k, .. } = case;
-    let answer = match operation {
-        Operation::Check => (variant.check)(*day, first).map(accepted),
-        Operation::Close => (variant.close)(*day, first, out1).map(accepted),
-        Operation::Join => (variant.join)(*day, first, second, out1).map(accepted),
-        Operation::Part => {
-            (variant.part)(*day, first, *k, out1, out2).map(|_| [2, 0, 0, 0, 0, 0, 0, 0, 0, 0])
-        }
-    };
-    answer.unwrap_or_else(refused)
+    match operation {
+        Operation::Check => answer::of_check((variant.check)(*day, first)),
+        Operation::Close => answer::of_writing((variant.close)(*day, first, out1)),
+        Operation::Join => answer::of_writing((variant.join)(*day, first, second, out1)),
+        Operation::Part => answer::of_parting((variant.part)(*day, first, *k, out1, out2)),
+    }
 }
 
 /// The case of this index. Large ones come up once in some thousands.

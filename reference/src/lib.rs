@@ -6,12 +6,14 @@
 //! a word at a time and hands everything else to the plain rules.
 #![forbid(unsafe_code)]
 
+pub mod answer;
 pub mod cases;
 mod checker;
 pub mod damage;
 mod date;
 mod field;
 mod figures;
+pub mod header;
 mod operations;
 pub mod program;
 pub mod random;
@@ -71,8 +73,18 @@ impl Refused {
     }
 }
 
-/// What checking, closing and joining answer.
+/// What checking answers.
 pub type Verdict = Result<Accepted, Refused>;
+
+/// What closing and joining answer.
+pub type Writing = Result<Written, Refused>;
+
+/// The figures of the written file, and how many bytes of the output it has.
+#[derive(Clone, Copy, Debug, PartialEq, Eq)]
+pub struct Written {
+    pub figures: Accepted,
+    pub bytes: usize,
+}
 
 /// What parting answers.
 pub type Parting = Result<Parted, Refused>;
@@ -90,8 +102,8 @@ pub struct Parted {
 pub struct Variant {
     pub name: &'static str,
     pub check: fn(Day, &[u8]) -> Verdict,
-    pub close: fn(Day, &[u8], &mut [u8]) -> Verdict,
-    pub join: fn(Day, &[u8], &[u8], &mut [u8]) -> Verdict,
+    pub close: fn(Day, &[u8], &mut [u8]) -> Writing,
+    pub join: fn(Day, &[u8], &[u8], &mut [u8]) -> Writing,
     pub part: fn(Day, &[u8], u64, &mut [u8], &mut [u8]) -> Parting,
 }
 

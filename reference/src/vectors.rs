@@ -92,11 +92,12 @@ pub fn line(case: &Case) -> String {
     match operation {
         Operation::Check => check(*day, first).map_or_else(refused, accepted),
         Operation::Close => {
-            let answer = close(*day, first, &mut one).map_or_else(refused, accepted);
+            let answer = close(*day, first, &mut one).map(|written| written.figures);
+            let answer = answer.map_or_else(refused, accepted);
             format!("{answer} {}", hash(&one))
         }
         Operation::Join => {
-            let answer = join(*day, first, second, &mut one);
+            let answer = join(*day, first, second, &mut one).map(|written| written.figures);
             let answer = answer.map_or_else(|r| format!("{} {}", refused(r), r.operand), accepted);
             format!("{answer} {}", hash(&one))
         }

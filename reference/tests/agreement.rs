@@ -3,6 +3,7 @@
 mod common;
 
 use common::*;
+use reference::answer::Place;
 use reference::cases::{Operation, answer, case};
 use reference::damage::damage;
 use reference::random::Random;
@@ -101,19 +102,41 @@ fn joined_files() {
     }
 }
 
+/// The places that apply to an operation, by what its answer is.
+#[rustfmt::skip]
+fn places(operation: Operation, what: u64) -> &'static [Place] {
+    use Place::*;
+    match (what, operation) {
+        (0, _) => &[What, Number, Operand, Record, Field],
+        (1, Operation::Check) => &[What, Assignments, Transactions, Records, Sum, FirstDate],
+        (1, Operation::Close | Operation::Join) => &[What, Assignments, Transactions, Records, Sum, FirstDate, Written],
+        (2, Operation::Part) => &[What, Written, WrittenSecond],
+        _ => panic!("{operation:?} answers {what}"),
+    }
+}
+
 /// Cases as the comparison with the archive has them: the variants answer
-/// alike and write alike, and every refusal comes up.
+/// alike and write alike, tell how much they wrote, have zeros where a place
+/// does not apply, and every refusal comes up.
 #[test]
 fn cases_of_every_operation() {
     let mut seen = [0u32; 22];
     for index in 0..40_000 {
         let case = case(1, index, &Operation::ALL);
         let [plain, fast] = [Variant::PLAIN, Variant::FAST].map(|variant| {
-            let [mut one, mut two] = case.rooms.map(|room| vec![0xEE; room]);
+            let [mut one, mut two] = case.rooms.map(|room| vec![FILLER; room]);
             (answer(&case, variant, &mut one, &mut two), one, two)
         });
         assert!(plain == fast, "case {index}: {:?} {:?}", plain.0, fast.0);
-        seen[plain.0[1] as usize] += 1;
+        let (answer, one, two) = plain;
+        let places = places(case.operation, Place::What.of(&answer));
+        for at in (0..answer.len()).filter(|&at| !places.iter().any(|&place| place as usize == at))
+        {
+            assert_eq!(answer[at], 0, "case {index}, place {at}");
+        }
+        let told = [Place::Written, Place::WrittenSecond].map(|place| place.of(&answer) as usize);
+        assert_eq!(told, [written(&one), written(&two)], "case {index}");
+        seen[Place::Number.of(&answer) as usize] += 1;
     }
     assert!(seen.iter().all(|&count| count > 0), "{seen:?}");
 }

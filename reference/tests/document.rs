@@ -3,7 +3,8 @@
 mod common;
 
 use common::*;
-use reference::{Day, Parted, program};
+use reference::cases::{Case, Operation, answer};
+use reference::{Day, Parted, Variant, program};
 
 /// One transaction of service 01 or 04 on that date, and that account.
 fn one(service: &str, date: &str, account: &str) -> Vec<u8> {
@@ -139,6 +140,30 @@ fn run_joined_to_its_twin() {
     assert_eq!(out1[..486], file);
     assert!(out1[486..].iter().all(|&byte| byte == 0xEE));
     assert_eq!(out2, twin);
+}
+
+/// The answer's sixteen numbers.
+#[test]
+#[rustfmt::skip]
+fn run_answers() {
+    let ask = |operation, first: &[u8], second: &[u8], rooms: [usize; 2]| {
+        let case = Case { operation, day: DAY, first: first.into(), second: second.into(), k: 1, rooms };
+        let [plain, fast] = [Variant::PLAIN, Variant::FAST].map(|variant| answer(&case, variant, &mut vec![0; rooms[0]], &mut vec![0; rooms[1]]));
+        assert_eq!(plain, fast);
+        plain
+    };
+    let (file, twin, kinds) = (whole(), with(&whole(), 2, 18, "0000002"), every_kind());
+    assert_eq!(ask(Operation::Check, &file, b"", [0, 0]), [1, 0, 0, 0, 0, 1, 1, 6, 80_000, 20251101, 0, 0, 0, 0, 0, 0]);
+    assert_eq!(ask(Operation::Close, &draft(&file), b"", [486, 0]), [1, 0, 0, 0, 0, 1, 1, 6, 80_000, 20251101, 486, 0, 0, 0, 0, 0]);
+    assert_eq!(ask(Operation::Close, &draft(&file), b"", [999, 0]), [1, 0, 0, 0, 0, 1, 1, 6, 80_000, 20251101, 486, 0, 0, 0, 0, 0]);
+    assert_eq!(ask(Operation::Join, &file, &twin, [900, 0]), [1, 0, 0, 0, 0, 2, 2, 10, 160_000, 20251101, 810, 0, 0, 0, 0, 0]);
+    assert_eq!(ask(Operation::Part, &kinds, b"", [2_000, 2_000]), [2, 0, 0, 0, 0, 0, 0, 0, 0, 0, 1_296, 0, 0, 0, 0, 810]);
+    // Refused: a figure, one byte too short, the same key, no boundary.
+    assert_eq!(ask(Operation::Check, &with(&file, 5, 41, "1"), b"", [0, 0]), [0, 18, 0, 5, 7, 0, 0, 0, 0, 0, 0, 0, 0, 0, 0, 0]);
+    assert_eq!(ask(Operation::Close, &draft(&file), b"", [485, 0]), [0, 19, 0, 0, 0, 0, 0, 0, 0, 0, 0, 0, 0, 0, 0, 0]);
+    assert_eq!(ask(Operation::Join, &file, &file, [900, 0]), [0, 15, 2, 2, 6, 0, 0, 0, 0, 0, 0, 0, 0, 0, 0, 0]);
+    assert_eq!(ask(Operation::Part, &kinds, b"", [1_296, 809]), [0, 19, 0, 0, 0, 0, 0, 0, 0, 0, 0, 0, 0, 0, 0, 0]);
+    assert_eq!(ask(Operation::Part, &file, b"", [999, 999]), [0, 21, 0, 0, 0, 0, 0, 0, 0, 0, 0, 0, 0, 0, 0, 0]);
 }
 
 #[test]

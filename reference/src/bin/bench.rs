@@ -8,10 +8,12 @@ mod archive;
 mod picture;
 
 use picture::{Line, Panel};
+use reference::answer::{Answer, Place, What};
 use reference::cases::{Case, Operation, answer};
 use reference::sample::{DAY, Plan, draft_and_file};
 use reference::{RECORD, Variant};
 use std::hint::black_box;
+use std::process::ExitCode;
 use std::time::Instant;
 
 const RUNS: usize = 15;
@@ -41,6 +43,10 @@ fn time(times: usize, mut work: impl FnMut()) -> f64 {
     start.elapsed().as_secs_f64() / times as f64
 }
 
+fn sound(answer: &Answer) {
+    assert!(Place::What.of(answer) != What::Refused as u64, "refused: {answer:?}");
+}
+
 /// An operation to be timed. Its outputs are just long enough.
 struct Work {
     case: Case,
@@ -51,12 +57,11 @@ struct Work {
 impl Work {
     fn ask_archive(&self, out1: &mut [u8], out2: &mut [u8]) {
         let answer = archive::ask(black_box(&self.case), out1, out2).expect("it has the operation");
-        assert!(answer[0] != 0, "refused: {answer:?}");
+        sound(&answer);
     }
 
     fn ask_reference(&self, out1: &mut [u8], out2: &mut [u8]) {
-        let answer = answer(black_box(&self.case), Variant::PLAIN, out1, out2);
-        assert!(answer[0] != 0, "refused: {answer:?}");
+        sound(&answer(black_box(&self.case), Variant::PLAIN, out1, out2));
     }
 
     /// The archive's times, if it has the operation, and this implementation's.
@@ -257,11 +262,20 @@ fn growth() -> [Panel; 2] {
     ]
 }
 
-fn main() -> std::io::Result<()> {
+fn main() -> ExitCode {
+    if let Some(lacking) = archive::lacking() {
+        eprintln!("{lacking}");
+        return ExitCode::from(2);
+    }
     season();
     let panels = growth();
-    match std::env::args().nth(1) {
-        Some(path) => std::fs::write(path, picture::svg(&panels)),
-        None => Ok(()),
-    }
+    let path = std::env::args().nth(1);
+    let written = path.map_or(Ok(()), |path| std::fs::write(path, picture::svg(&panels)));
+    written.map_or_else(
+        |error| {
+            eprintln!("the picture could not be written: {error}");
+            ExitCode::FAILURE
+        },
+        |()| ExitCode::SUCCESS,
+    )
 }

@@ -7,7 +7,8 @@
 #[path = "../archive.rs"]
 mod archive;
 
-use reference::cases::{Answer, Case, Operation, answer, case};
+use reference::answer::{Answer, PLACES, Place};
+use reference::cases::{Case, Operation, answer, case};
 use reference::{RECORD, Variant, vectors};
 use std::collections::BTreeMap;
 use std::process::ExitCode;
@@ -94,6 +95,21 @@ fn show(name: &str, data: &[u8]) {
     }
 }
 
+/// Both answers, a line for each place.
+fn report_answers(expected: &Answer, found: &Answer) {
+    println!("place                       reference              archive");
+    for place in 0..PLACES {
+        let named = Place::ALL.into_iter().find(|&named| named as usize == place);
+        let name = named.map_or("(always 0)".into(), |named| format!("{named:?}"));
+        let mark = if expected[place] == found[place] { "" } else { "  differs" };
+        let found = match found[place] {
+            archive::UNWRITTEN => "not written".into(),
+            number => number.to_string(),
+        };
+        println!("{place:>5} {name:<13} {:>17} {found:>20}{mark}", expected[place]);
+    }
+}
+
 fn report(case: &Case) {
     println!(
         "{} day {:?} k {} outputs of {:?} bytes",
@@ -105,7 +121,7 @@ fn report(case: &Case) {
     show("first", &case.first);
     show("second", &case.second);
     let (expected, found) = (expected(case, Variant::PLAIN), found(case));
-    println!("reference {:?}\narchive   {:?}", expected.answer, found.answer);
+    report_answers(&expected.answer, &found.answer);
     for (name, a, b) in [
         ("first", &expected.outputs[0], &found.outputs[0]),
         ("second", &expected.outputs[1], &found.outputs[1]),
@@ -119,7 +135,7 @@ fn report(case: &Case) {
 
 /// The type of the record that a refusal names.
 fn record_type(case: &Case, answer: &Answer) -> String {
-    let [_, _, operand, record, ..] = *answer;
+    let (operand, record) = (Place::Operand.of(answer), Place::Record.of(answer));
     let data = if operand == 2 { &case.second } else { &case.first };
     let at = (record as usize).wrapping_sub(1).wrapping_mul(RECORD);
     match data.get(at + 6..at + 8) {
@@ -138,7 +154,8 @@ struct Histogram(BTreeMap<(&'static str, u64, u64, u64, String), u64>);
 
 impl Histogram {
     fn add(&mut self, case: &Case, answer: &Answer) {
-        let [_, number, operand, _, field, ..] = *answer;
+        let [number, operand, field] =
+            [Place::Number, Place::Operand, Place::Field].map(|place| place.of(answer));
         let key = (case.operation.name(), number, operand, field, record_type(case, answer));
         *self.0.entry(key).or_default() += 1;
     }
@@ -164,10 +181,11 @@ fn operations() -> Vec<Operation> {
             println!("left out: {} (not in the archive)", operation.name());
         }
     }
-    if operations.is_empty() {
-        println!("no archive: make it with `rt staticlib pay_c`, or name it in PAY_C");
-    }
     operations
+}
+
+fn success(all_is_well: bool) -> ExitCode {
+    if all_is_well { ExitCode::SUCCESS } else { ExitCode::FAILURE }
 }
 
 /// Runs the vectors of a folder, from v000 on.
@@ -188,14 +206,11 @@ fn run_vectors(folder: &str) -> ExitCode {
         }
     }
     println!("{asked} vectors, {differ} differ");
-    if asked > 0 && differ == 0 { ExitCode::SUCCESS } else { ExitCode::FAILURE }
+    success(asked > 0 && differ == 0 && operations == Operation::ALL)
 }
 
 fn run(cases: u64, seed: u64) -> ExitCode {
     let operations = operations();
-    if operations.is_empty() {
-        return ExitCode::from(2);
-    }
     let mut histogram = Histogram::default();
     for index in 0..cases {
         let case = case(seed, index, &operations);
@@ -214,13 +229,17 @@ fn run(cases: u64, seed: u64) -> ExitCode {
     }
     histogram.print();
     println!("{cases} cases, 0 differ");
-    ExitCode::SUCCESS
+    success(operations == Operation::ALL)
 }
 
 fn main() -> ExitCode {
     let words: Vec<String> = std::env::args().skip(1).collect();
     let words: Vec<&str> = words.iter().map(String::as_str).collect();
     let number = |word: &str| word.parse::<u64>().ok();
+    if let Some(lacking) = archive::lacking() {
+        eprintln!("{lacking}");
+        return ExitCode::from(2);
+    }
     match words[..] {
         ["case", seed, index] => match (number(seed), number(index)) {
             (Some(seed), Some(index)) => {

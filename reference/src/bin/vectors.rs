@@ -399,6 +399,13 @@ fn name(index: usize) -> String {
     format!("v{index:03}")
 }
 
+/// Writes a file, unless it is there just so: a file that did not change does
+/// not get newer than what is made of the crates.
+fn put(path: &Path, bytes: &[u8]) -> io::Result<()> {
+    let is_there = fs::read(path).is_ok_and(|there| there == bytes);
+    if is_there { Ok(()) } else { fs::write(path, bytes) }
+}
+
 fn main() -> io::Result<()> {
     let folder = std::env::args().nth(1).expect("vectors FOLDER");
     let (data, stdout) = (Path::new(&folder).join("data"), Path::new(&folder).join("stdout"));
@@ -406,7 +413,6 @@ fn main() -> io::Result<()> {
         fs::read(data.join(name(index))).is_ok_and(|vector| vector.starts_with(b"check "))
     };
     let kept = (0..1000).take_while(|&index| is_kept(index)).count();
-    (kept..1000).for_each(|index| drop(fs::remove_file(data.join(name(index)))));
 
     let groups = [
         ("close", [sound_closings(), refused_closings()].concat()),
@@ -418,11 +424,12 @@ fn main() -> io::Result<()> {
     for (operation, cases) in groups {
         println!("{} {operation} vectors made, {} on", cases.len(), name(index));
         for case in cases {
-            fs::write(data.join(name(index)), vectors::written(&case))?;
+            put(&data.join(name(index)), &vectors::written(&case))?;
             index += 1;
         }
     }
     assert!(index <= 1000, "a name has three digits");
+    (index..1000).for_each(|index| drop(fs::remove_file(data.join(name(index)))));
 
     let mut lines = String::new();
     for index in 0..index {
@@ -430,5 +437,5 @@ fn main() -> io::Result<()> {
         let answer = vectors::read(&vector).map_or("no vector".into(), |case| vectors::line(&case));
         lines += &format!("{} {answer}\n", name(index));
     }
-    fs::write(stdout, lines)
+    put(&stdout, lines.as_bytes())
 }

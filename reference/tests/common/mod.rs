@@ -2,7 +2,7 @@
 #![allow(dead_code, unused_imports)]
 
 pub use reference::records::*;
-use reference::{Accepted, Day, Parting, Refused, Variant, Verdict};
+use reference::{Accepted, Day, Parted, Parting, RECORD, Refused, Variant, Verdict, Writing};
 
 pub const DAY: Day = (2025, 10, 1);
 
@@ -35,14 +35,33 @@ pub fn check(data: &[u8]) -> Verdict {
     check_on(DAY, data)
 }
 
+/// What outputs are filled with. No file ends with it.
+pub const FILLER: u8 = 0xEE;
+
+/// How many bytes of an output are written: all up to the last that changed.
+pub fn written(out: &[u8]) -> usize {
+    out.iter().rposition(|&byte| byte != FILLER).map_or(0, |last| last + 1)
+}
+
+/// The verdict on a written file, whose bytes are told as they are, and which
+/// is as long as its records. A refusal changes nothing.
+fn verdict(writing: Writing, out: &[u8]) -> Verdict {
+    assert_eq!(writing.map_or(0, |file| file.bytes), written(out));
+    writing.map(|file| {
+        assert_eq!(file.bytes, file.figures.records as usize * RECORD);
+        file.figures
+    })
+}
+
 /// What closing answers and the output it leaves, of this room.
 pub fn close_on(day: Day, draft: &[u8], room: usize) -> (Verdict, Vec<u8>) {
     let [plain, fast] = [Variant::PLAIN, Variant::FAST].map(|variant| {
-        let mut out = vec![0xEE; room];
+        let mut out = vec![FILLER; room];
         ((variant.close)(day, draft, &mut out), out)
     });
     assert!(plain == fast, "{:?} {:?}", plain.0, fast.0);
-    plain
+    let (writing, out) = plain;
+    (verdict(writing, &out), out)
 }
 
 pub fn close(draft: &[u8], room: usize) -> (Verdict, Vec<u8>) {
@@ -51,11 +70,12 @@ pub fn close(draft: &[u8], room: usize) -> (Verdict, Vec<u8>) {
 
 pub fn join_on(day: Day, a: &[u8], b: &[u8], room: usize) -> (Verdict, Vec<u8>) {
     let [plain, fast] = [Variant::PLAIN, Variant::FAST].map(|variant| {
-        let mut out = vec![0xEE; room];
+        let mut out = vec![FILLER; room];
         ((variant.join)(day, a, b, &mut out), out)
     });
     assert!(plain == fast, "{:?} {:?}", plain.0, fast.0);
-    plain
+    let (writing, out) = plain;
+    (verdict(writing, &out), out)
 }
 
 pub fn join(a: &[u8], b: &[u8], room: usize) -> (Verdict, Vec<u8>) {
@@ -64,9 +84,12 @@ pub fn join(a: &[u8], b: &[u8], room: usize) -> (Verdict, Vec<u8>) {
 
 pub fn part(data: &[u8], k: u64, rooms: [usize; 2]) -> (Parting, [Vec<u8>; 2]) {
     let [plain, fast] = [Variant::PLAIN, Variant::FAST].map(|variant| {
-        let [mut out1, mut out2] = rooms.map(|room| vec![0xEE; room]);
+        let [mut out1, mut out2] = rooms.map(|room| vec![FILLER; room]);
         ((variant.part)(DAY, data, k, &mut out1, &mut out2), [out1, out2])
     });
     assert!(plain == fast, "{:?} {:?}", plain.0, fast.0);
-    plain
+    let (parting, outs) = plain;
+    let Parted { first, second } = parting.unwrap_or(Parted { first: 0, second: 0 });
+    assert_eq!([first, second], [written(&outs[0]), written(&outs[1])]);
+    (parting, outs)
 }
