@@ -7,20 +7,25 @@
 
 #include "pay.h"
 
+/* an assignment of one payment, and one of two, so that no two lengths are the same */
 #define START "NY000010000123450110001000080800000000000000000000000000000000000000000000000000\n"
-#define ONE "NY040020000000001000000112345678903000000000000000000000000000000000000000000000\n"
-#define TWO "NY040020000000001000000212345678903000000000000000000000000000000000000000000000\n"
-#define PAYMENT \
+#define ONE \
+    "NY040020000000001000000112345678903000000000000000000000000000000000000000000000\n" \
     "NY04023000000010111251234567890300000000000080000                         000000\n" \
     "NY0402310000001MAKRELL                                                     00000\n"
-#define END "NY040088000000010000000400000000000080000011125011125000000000000000000000000000\n"
-#define END_OF_ONE "NY000089000000010000000600000000000080000011125000000000000000000000000000000000\n"
-#define END_OF_TWO "NY000089000000020000001000000000000160000011125000000000000000000000000000000000\n"
+#define TWO \
+    "NY040020000000001000000212345678903000000000000000000000000000000000000000000000\n" \
+    "NY04023000000010111251234567890300000000000080000                         000000\n" \
+    "NY0402310000001MAKRELL                                                     00000\n" \
+    "NY04023000000020111251234567890300000000000080000                         000000\n" \
+    "NY0402310000002MAKRELL                                                     00000\n"
+#define ONE_ENDS "NY040088000000010000000400000000000080000011125011125000000000000000000000000000\n"
+#define TWO_ENDS "NY040088000000020000000600000000000160000011125011125000000000000000000000000000\n"
 
-static const char draft[] = START ONE PAYMENT TWO PAYMENT;
-static const char first[] = START ONE PAYMENT END END_OF_ONE;
-static const char second[] = START TWO PAYMENT END END_OF_ONE;
-static const char both[] = START ONE PAYMENT END TWO PAYMENT END END_OF_TWO;
+static const char draft[] = START ONE TWO;
+static const char first[] = START ONE ONE_ENDS "NY000089000000010000000600000000000080000011125000000000000000000000000000000000\n";
+static const char second[] = START TWO TWO_ENDS "NY000089000000020000000800000000000160000011125000000000000000000000000000000000\n";
+static const char both[] = START ONE ONE_ENDS TWO TWO_ENDS "NY000089000000030000001200000000000240000011125000000000000000000000000000000000\n";
 
 /* a text in C as an input, and how many bytes it has */
 #define BYTES(text) (const uint8_t *)(text), sizeof(text) - 1
@@ -80,15 +85,15 @@ static void refuses(const char *what, uint64_t number, uint64_t operand, uint64_
     clear();
 }
 
-/* The figures of a file with so many assignments of a payment each, and how many bytes were written. */
-static void accepts(const char *what, uint64_t assignments, uint64_t written)
+/* The figures of a file, every payment of 800 kroner, and how many bytes were written. */
+static void accepts(const char *what, uint64_t assignments, uint64_t transactions, uint64_t written)
 {
     const uint64_t asked[PAY_ANSWER] = {
         [PAY_WHAT] = PAY_ACCEPTED,
         [PAY_ASSIGNMENTS] = assignments,
-        [PAY_TRANSACTIONS] = assignments,
-        [PAY_RECORDS] = 4 * assignments + 2,
-        [PAY_SUM] = 80000 * assignments,
+        [PAY_TRANSACTIONS] = transactions,
+        [PAY_RECORDS] = 2 * (assignments + transactions + 1),
+        [PAY_SUM] = 80000 * transactions,
         [PAY_FIRST_DATE] = 20251101,
         [PAY_WRITTEN] = written,
     };
@@ -99,7 +104,7 @@ static void accepts(const char *what, uint64_t assignments, uint64_t written)
 static void try_check(void)
 {
     pay_check(DAY, BYTES(first), answer);
-    accepts("check", 1, 0);
+    accepts("check", 1, 1, 0);
     clear();
     pay_check(DAY, BYTES(draft), answer);
     refuses("check a draft", PAY_OUT_OF_ORDER, 0, 5, 4);
@@ -114,11 +119,11 @@ static void try_close(void)
     const uint64_t needed = sizeof draft - 1 + 3 * PAY_RECORD_BYTES;
 
     pay_close(DAY, BYTES(draft), out, needed, answer);
-    accepts("close", 2, needed);
+    accepts("close", 2, 3, needed);
     holds("close", out, BYTES(both));
     clear();
     pay_close(DAY, BYTES(draft), out, needed + LONGER, answer);
-    accepts("close with more room", 2, needed);
+    accepts("close with more room", 2, 3, needed);
     holds("close with more room", out, BYTES(both));
     clear();
     pay_close(DAY, BYTES(draft), out, needed - 1, answer);
@@ -132,11 +137,11 @@ static void try_join(void)
     const uint64_t needed = sizeof first - 1 + sizeof second - 1 - 2 * PAY_RECORD_BYTES;
 
     pay_join(DAY, BYTES(first), BYTES(second), out, needed, answer);
-    accepts("join", 2, needed);
+    accepts("join", 2, 3, needed);
     holds("join", out, BYTES(both));
     clear();
     pay_join(DAY, BYTES(first), BYTES(second), out, needed + LONGER, answer);
-    accepts("join with more room", 2, needed);
+    accepts("join with more room", 2, 3, needed);
     holds("join with more room", out, BYTES(both));
     clear();
     pay_join(DAY, BYTES(first), BYTES(second), out, needed - 1, answer);

@@ -1,11 +1,9 @@
-/* stack.c: how much stack each operation takes on files of 500 assignments. Each runs in a thread whose stack was painted before;
- * the deepest byte that is no paint any more says how far it went. Fails above PAY_STACK. */
-/* for pthread_attr_setstack */
-#define _XOPEN_SOURCE 600
+/* stack.c: how much stack each operation takes on files of 500 assignments. Each runs in a thread whose stack was painted before; the deepest byte that is
+ * no paint any more says how far it went. Fails above PAY_STACK. The deepest operation is the first, with what the loader takes to find memset for it. */
+#define _XOPEN_SOURCE 600 /* for pthread_attr_setstack */
 #include <pthread.h>
 #include <stdint.h>
 #include <stdio.h>
-#include <string.h>
 
 #include "pay.h"
 
@@ -60,7 +58,7 @@ static const struct {
     const char *name;
     void (*run)(void);
     uint64_t what;
-} operations[] = {{"pay_check", run_check, PAY_ACCEPTED}, {"pay_close", run_close, PAY_ACCEPTED}, {"pay_join", run_join, PAY_ACCEPTED}, {"pay_part", run_part, PAY_PARTED}};
+} operations[] = {{"pay_part", run_part, PAY_PARTED}, {"pay_close", run_close, PAY_ACCEPTED}, {"pay_join", run_join, PAY_ACCEPTED}, {"pay_check", run_check, PAY_ACCEPTED}};
 
 static uint64_t depth;
 
@@ -77,22 +75,32 @@ static void *work(void *with)
     return NULL;
 }
 
-static int measure(int which)
+/* Runs an operation in a thread of its own, on the painted stack. */
+static int run(int which)
 {
     pthread_attr_t attributes;
     pthread_t thread;
 
-    memset(stack, PAINT, STACK);
-    if (pthread_attr_init(&attributes) != 0 || pthread_attr_setstack(&attributes, stack, STACK) != 0 || pthread_create(&thread, &attributes, work, &which) != 0 || pthread_join(thread, NULL) != 0) {
-        printf("WRONG no thread\n");
-        return 1;
-    }
+    /* by hand, so that memset is not found before an operation asks for it */
+    for (volatile uint8_t *at = stack; at < stack + STACK; at++)
+        *at = PAINT;
+    return pthread_attr_init(&attributes) == 0 && pthread_attr_setstack(&attributes, stack, STACK) == 0 && pthread_create(&thread, &attributes, work, &which) == 0 && pthread_join(thread, NULL) == 0;
+}
+
+static int measure(int which)
+{
+    const char *fault = NULL;
+
+    if (!run(which))
+        fault = "no thread could be started";
+    else if (answer[PAY_WHAT] != operations[which].what)
+        fault = "it did not do its work";
+    else if (depth > PAY_STACK)
+        fault = "this is more than PAY_STACK";
     printf("      %s takes %d bytes of stack\n", operations[which].name, (int)depth);
-    if (answer[PAY_WHAT] != operations[which].what)
-        printf("WRONG %s did not do its work\n", operations[which].name);
-    if (depth > PAY_STACK)
-        printf("WRONG %s takes more than PAY_STACK, which is %d\n", operations[which].name, PAY_STACK);
-    return answer[PAY_WHAT] != operations[which].what || depth > PAY_STACK;
+    if (fault != NULL)
+        printf("WRONG %s: %s\n", operations[which].name, fault);
+    return fault != NULL;
 }
 
 int main(void)

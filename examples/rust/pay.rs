@@ -229,15 +229,27 @@ mod tests {
     const DRAFT: &[u8] = include_bytes!("../draft.txt");
 
     fn figures(assignments: u64, written: usize) -> Accepted {
-        let (transactions, records, sum) = (assignments, 4 * assignments + 2, 80000 * assignments);
-        Accepted { assignments, transactions, records, sum, first_date: 20251101, written }
+        let (transactions, records) = (assignments, 4 * assignments + 2);
+        let (sum, first_date) = (80000 * assignments, 20251101);
+        Accepted { assignments, transactions, records, sum, first_date, written }
+    }
+
+    fn fault(number: u64, operand: u64, record: u64, field: u64) -> Refused {
+        Refused { number, operand, record, field }
+    }
+
+    fn joined(first: &[u8], second: &[u8]) -> Vec<u8> {
+        let mut out = vec![0; first.len() + second.len()];
+        let file = join(ON, first, second, &mut out).expect("two sound files");
+        out.truncate(file.written);
+        out
     }
 
     #[test]
     fn a_file_is_checked() {
         assert_eq!(check(ON, WHOLE), Ok(figures(1, 0)));
-        assert_eq!(check(ON, DRAFT), Err(Refused { number: 6, operand: 0, record: 5, field: 0 }));
-        assert_eq!(check(ON, &[]), Err(Refused { number: 2, operand: 0, record: 0, field: 0 }));
+        assert_eq!(check(ON, DRAFT), Err(fault(6, 0, 5, 0)));
+        assert_eq!(check(ON, &[]), Err(fault(2, 0, 0, 0)));
     }
 
     #[test]
@@ -245,25 +257,26 @@ mod tests {
         let mut out = vec![0; 2 * DRAFT.len() + PAY_RECORD_BYTES];
         assert_eq!(close(ON, DRAFT, &mut out), Ok(figures(1, WHOLE.len())));
         assert_eq!(&out[..WHOLE.len()], WHOLE);
-        assert_eq!(
-            close(ON, DRAFT, &mut []),
-            Err(Refused { number: 19, operand: 0, record: 0, field: 0 })
-        );
+        assert_eq!(close(ON, DRAFT, &mut []), Err(fault(19, 0, 0, 0)));
     }
 
     #[test]
-    fn what_was_joined_is_parted() {
-        let mut out = vec![0; WHOLE.len() + TWIN.len()];
-        let joined = join(ON, WHOLE, TWIN, &mut out).expect("two sound files");
-        assert_eq!(joined, figures(2, 10 * PAY_RECORD_BYTES));
-        let file = &out[..joined.written];
+    fn two_files_are_joined() {
+        assert_eq!(check(ON, &joined(WHOLE, TWIN)), Ok(figures(2, 0)));
+        let mut out = vec![0; WHOLE.len() + WHOLE.len()];
+        assert_eq!(join(ON, WHOLE, WHOLE, &mut out), Err(fault(15, 2, 2, 6)));
+    }
+
+    #[test]
+    fn a_file_is_parted() {
+        let mut third = TWIN.to_vec();
+        third[PAY_RECORD_BYTES + 23] = b'3';
+        let others = joined(TWIN, &third);
+        let file = joined(WHOLE, &others);
         let (mut first, mut second) = (vec![0; file.len()], vec![0; file.len()]);
-        let parts = part(ON, file, 1, &mut first, &mut second).expect("two assignments");
+        let parts = part(ON, &file, 1, &mut first, &mut second).expect("three assignments");
         assert_eq!(&first[..parts.written], WHOLE);
-        assert_eq!(&second[..parts.written_second], TWIN);
-        assert_eq!(
-            join(ON, WHOLE, WHOLE, &mut out),
-            Err(Refused { number: 15, operand: 2, record: 2, field: 6 })
-        );
+        assert_eq!(&second[..parts.written_second], others);
+        assert_eq!(part(ON, &file, 3, &mut first, &mut second), Err(fault(21, 0, 0, 0)));
     }
 }
