@@ -108,6 +108,8 @@ static void try_check(void)
     clear();
     pay_check(DAY, BYTES(draft), answer);
     refuses("check a draft", PAY_OUT_OF_ORDER, 0, 5, 4);
+    pay_check(DAY, (const uint8_t *)first, sizeof first - 1 - PAY_RECORD_BYTES, answer);
+    refuses("check a file without its last record", PAY_ENDS_EARLY, 0, 6, 0);
     pay_check(0, 0, 0, BYTES(first), answer);
     refuses("check on no day", PAY_NO_PROCESS_DAY, 0, 0, 0);
     pay_check(UINT64_MAX, UINT64_MAX, UINT64_MAX, BYTES(first), answer);

@@ -1,4 +1,4 @@
-//! Is a file as the clearing house wants it? Prints the first line that `pay check` prints. On x86-64:
+//! Is a file as the clearing house wants it? Prints the first line that `pay check` prints. On x86-64, from the project's root:
 //!
 //! ```text
 //! rt staticlib pay_c
@@ -7,7 +7,7 @@
 //! ```
 //!
 //! It ends with 0 accepted, 1 refused, 2 trouble, which is told on standard error.
-//! On another processor the archive is the one that `reference/archive` makes.
+//! On Arm, `reference/archive` makes an archive to try it with: `target/staticlib/aarch64/libpay_c.a`.
 
 // this program checks, and calls no other operation
 #[allow(dead_code)]
