@@ -2,7 +2,6 @@
 #pragma once
 #include <stddef.h>
 int memcmp(const void *one, const void *other, size_t length);
-void *memcpy(void *restrict to, const void *restrict from, size_t length);
 void *memset(void *memory, int byte, size_t length);
 size_t strlen(const char *text);
 size_t strspn(const char *text, const char *set);
