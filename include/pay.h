@@ -1,25 +1,28 @@
 /* pay.h: the pay office's four operations for programs in C99, and for what can call C.
  *
- * The archive libpay_c.a has them. README.md, "For programs", says how it is made and linked, and examples/c has a program.
- * docs/FORMAT.md says what a file is, record by record.
+ * The archive libpay_c.a has them. README.md, "For programs", says how it is made and linked. examples/c has two programs: check.c, and
+ * close.c, which saves what was written. docs/FORMAT.md says what a file is, record by record.
  *
  * What goes in. Any bytes and any numbers may be handed in: there is nothing that a caller has to look at first. Each call ends,
  * with an answer or with one numbered refusal.
- *     year, month, day   the process day: 2025, 10, 1. It is always given; nothing is taken from a clock.
- *     file, draft        the bytes of a whole file or draft, and how many they are. They are read and never changed.
+ *     year, month, day   the process day: 2025, 10, 1; years 2000 to 2099. It is always given; nothing is taken from a clock.
+ *     file, draft        the bytes of a whole file or draft, and how many they are. They are read and never changed, and nobody else may
+ *                        change them during the call (another thread, or another program in a mapped file).
  *     out                room for what is written, lent for the call, and how many bytes it has.
  *     answer             sixteen numbers, all of them written by every call.
  *
  * What comes out. The answer's places are named below; a place that does not apply is 0.
  *     accepted   the figures of the file that was checked or written; place PAY_WRITTEN has how many bytes of out are the file.
  *     parted     places PAY_WRITTEN and PAY_WRITTEN_SECOND have how many bytes of the two outputs are the parts.
- *     refused    number, operand, record and field of the first fault. No byte of an output was changed.
+ *     refused    number, operand, record and field of the first fault. No byte of an output was changed. That an output is too short
+ *                is looked at last: whoever is told so has sound inputs.
  * Bytes of an output behind what was written stay as they were. Sums are in hundredths of a krone (80000 is 800.00 kroner).
  * A date is the number year * 10000 + month * 100 + day: 20251101 is 1 November 2025.
  *
  * Memory. An output must not overlap an input, the other output or the answer; inputs may overlap, or be the same.
  * A length of 0 may go with any pointer, NULL too. Any other pointer is to as many bytes as its length says, and answer is to sixteen numbers.
- * A call needs at most PAY_STACK bytes of stack, takes no memory from the heap, opens nothing and prints nothing.
+ * A call needs at most PAY_STACK bytes of stack, takes no memory from the heap, opens nothing and prints nothing. Of the C library the
+ * archive calls memset and its like and nothing else; it is position independent.
  * Nothing is shared between calls, so threads may call at the same time, each with outputs and an answer of its own.
  */
 #ifndef PAY_H
@@ -45,7 +48,8 @@ enum {
     PAY_WHAT = 0,             /* one of the three below */
     PAY_NUMBER = 1,           /* of a refusal: its number, one of those below */
     PAY_OPERAND = 2,          /* of a refusal by pay_join: 1 the first file, 2 the second, 0 both or the joined one; else 0 */
-    PAY_RECORD = 3,           /* of a refusal: the record, counted from 1; 0 for the whole file */
+    PAY_RECORD = 3,           /* of a refusal: the record, counted from 1, its bytes beginning at (record - 1) * PAY_RECORD_BYTES; 0 for the whole file.
+                                 It may be one behind the last, where something is missing: compare with the length before you read there */
     PAY_FIELD = 4,            /* of a refusal: the field, counted from 1 as in docs/FORMAT.md; 0 for the whole record */
     PAY_ASSIGNMENTS = 5,      /* accepted: how many assignments */
     PAY_TRANSACTIONS = 6,     /* accepted: how many transactions */
@@ -94,15 +98,18 @@ enum {
 /* Is this file as the clearing house wants it? PAY_ACCEPTED with the file's figures, or PAY_REFUSED. Nothing is written but the answer. */
 void pay_check(uint64_t year, uint64_t month, uint64_t day, const uint8_t *file, uint64_t file_length, uint64_t answer[PAY_ANSWER]);
 
-/* Adds the end records 88 and 89 to a draft. PAY_ACCEPTED with the written file's figures, or PAY_REFUSED; records are counted in the draft.
+/* Adds the end records 88 and 89 to a draft. PAY_ACCEPTED with the written file's figures, or PAY_REFUSED. A refusal names a record of the draft,
+ * but too many records are those of the file to be written.
  * Room needed: PAY_RECORD_BYTES for each record of the draft, for each of its assignments, and for the 89. 2 * draft_length + PAY_RECORD_BYTES is always enough. */
 void pay_close(uint64_t year, uint64_t month, uint64_t day, const uint8_t *draft, uint64_t draft_length, uint8_t *out, uint64_t out_length, uint64_t answer[PAY_ANSWER]);
 
 /* Makes one file of two: the first file's record 10, the assignments of both, and a new 89. PAY_ACCEPTED with the written file's figures, or PAY_REFUSED.
+ * Too many records, too many assignments and too high a sum with operand 0 are those of the file to be written.
  * Room needed: first_length + second_length - 2 * PAY_RECORD_BYTES. */
 void pay_join(uint64_t year, uint64_t month, uint64_t day, const uint8_t *first, uint64_t first_length, const uint8_t *second, uint64_t second_length, uint8_t *out, uint64_t out_length, uint64_t answer[PAY_ANSWER]);
 
 /* Makes two files of one: the first k assignments go to the first output, the others to the second. PAY_PARTED, which has no figures, or PAY_REFUSED.
+ * k goes from 1 to one less than the file's assignments; any other is refused with PAY_NO_BOUNDARY.
  * A part has the record 10, its assignments and an 89 of its own. So its length is PAY_RECORD_BYTES * (2 + the records of its assignments),
  * and both lengths together are file_length + 2 * PAY_RECORD_BYTES. Room needed: these lengths; file_length bytes for each are always enough. */
 void pay_part(uint64_t year, uint64_t month, uint64_t day, const uint8_t *file, uint64_t file_length, uint64_t k, uint8_t *first, uint64_t first_length, uint8_t *second, uint64_t second_length, uint64_t answer[PAY_ANSWER]);
