@@ -66,13 +66,9 @@ fn offered(archive: &Path) -> Result<Vec<String>, &'static str> {
     }
 }
 
-/// Where reference/archive puts what it makes: the kit's own is for x86-64.
+/// Where reference/archive puts what it makes.
 fn usual(root: &Path) -> PathBuf {
-    let folder = root.join("target/staticlib");
-    match told("CARGO_CFG_TARGET_ARCH").as_str() {
-        "x86_64" => folder.join("libpay_c.a"),
-        other => folder.join(other).join("libpay_c.a"),
-    }
+    root.join("target/staticlib").join(told("CARGO_CFG_TARGET_ARCH")).join("libpay_c.a")
 }
 
 fn main() {

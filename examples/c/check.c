@@ -1,11 +1,10 @@
-/* check.c: is a file as the clearing house wants it? Prints the first line that `pay check` prints. On x86-64, with any compiler for C99, from the project's root:
+/* check.c: is a file as the clearing house wants it? Prints the first line that `pay check` prints. With any compiler for C99, from the project's root:
  *
- *     rt staticlib pay_c
- *     cc -std=c99 -Iinclude examples/c/check.c target/staticlib/libpay_c.a -o target/check
+ *     reference/archive
+ *     cc -std=c99 -Iinclude examples/c/check.c target/staticlib/$(uname -m)/libpay_c.a -o target/check
  *     target/check 011025 examples/whole.txt
  *
  * It ends with 0 accepted, 1 refused, 2 trouble, which is told on standard error.
- * On Arm, reference/archive makes an archive to try it with: target/staticlib/aarch64/libpay_c.a.
  */
 #include <errno.h>
 #include <inttypes.h>

@@ -1,13 +1,12 @@
-//! Is a file as the clearing house wants it? Prints the first line that `pay check` prints. On x86-64, from the project's root:
+//! Is a file as the clearing house wants it? Prints the first line that `pay check` prints. From the project's root:
 //!
 //! ```text
-//! rt staticlib pay_c
-//! rustc --edition 2024 -O examples/rust/check.rs -C link-arg=target/staticlib/libpay_c.a -o target/check
+//! reference/archive
+//! rustc --edition 2024 -O examples/rust/check.rs -C link-arg=target/staticlib/$(uname -m)/libpay_c.a -o target/check
 //! target/check 011025 examples/whole.txt
 //! ```
 //!
 //! It ends with 0 accepted, 1 refused, 2 trouble, which is told on standard error.
-//! On Arm, `reference/archive` makes an archive to try it with: `target/staticlib/aarch64/libpay_c.a`.
 
 // this program checks, and calls no other operation
 #[allow(dead_code)]
