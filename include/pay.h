@@ -19,7 +19,7 @@
  * Bytes of an output behind what was written stay as they were. Sums are in hundredths of a krone (80000 is 800.00 kroner).
  * A date is the number year * 10000 + month * 100 + day: 20251101 is 1 November 2025.
  *
- * Memory. An output must not overlap an input, the other output or the answer; inputs may overlap, or be the same.
+ * Memory. An output overlaps nothing else that is handed in, and neither does the answer; inputs may overlap, or be the same.
  * A length of 0 may go with any pointer, NULL too. Any other pointer is to as many bytes as its length says, and answer is to sixteen numbers.
  * A call needs at most PAY_STACK bytes of stack, takes no memory from the heap, opens nothing and prints nothing. Of the C library the
  * archive calls memset and its like and nothing else; it is position independent.
