@@ -54,6 +54,8 @@ build() {
     say 'the program is built with its proofs; the first time takes some minutes'
     rm -f "$target/$program-built"
     if ! { touch "$target/$program-begun" && mkdir -m 711 "$room" && : >"$log"; }; then give_up; fi
+    # rt passes over a program that it has proved, even where its file is gone
+    [ -x "$target/bin/$program" ] || rm -f "$target/stamp/$program"
     # Ctrl-C is for the starter, which then ends all of them; what they keep beside the tree, some hundred megabytes each, goes with their folder
     (trap '' INT QUIT && cd "$root" && exec env TMPDIR="$room" rt check "$program") >"$log" 2>&1 </dev/null &
     prover=$!
@@ -61,7 +63,7 @@ build() {
     watcher=$!
     wait "$prover"
     ended=$?
-    kill "$watcher" 2>/dev/null
+    kill -KILL "$watcher" 2>/dev/null
     wait "$watcher" 2>/dev/null
     if [ -t 2 ]; then wipe; else tell; fi
     if [ "$ended" != 0 ]; then
@@ -144,7 +146,7 @@ look() {
         END { printf "%d %d %d %d\n", proved, all, now, left }' - "$log"
 }
 
-# one line that renews itself on a terminal; elsewhere a line where something is new, after ten seconds or more
+# one line that renews itself on a terminal; elsewhere a first line, and one where something is new after ten seconds or more (the last is for the starter)
 tell() {
     [ -f "$log" ] || return 0
     now=$(date +%s)
@@ -158,7 +160,7 @@ tell() {
     line="$program: proved $1 of $2 crates in $(((now - since) / 60)):$(printf %02d $(((now - since) % 60)))$(remaining "$3" "$4")"
     if [ -t 2 ]; then
         printf '\r%-64.64s' "$line" >&2
-    elif [ -z "$told" ] || { [ "$1" != "$told" ] && [ $((now - told_at)) -ge 10 ]; }; then
+    elif [ -z "$told" ] || { [ "$1" != "$told" ] && [ "$1" != "$2" ] && [ $((now - told_at)) -ge 10 ]; }; then
         told=$1 told_at=$now
         echo "$line" >&2
     fi
