@@ -21,8 +21,9 @@
  *
  * Memory. An output overlaps nothing else that is handed in, and neither does the answer; inputs may overlap, or be the same.
  * A length of 0 may go with any pointer, NULL too. Any other pointer is to as many bytes as its length says, and answer is to sixteen numbers.
- * A call needs at most PAY_STACK bytes of stack, takes no memory from the heap, opens nothing and prints nothing. Of the C library the
- * archive calls memset and its like and nothing else; it is position independent.
+ * A call needs at most PAY_STACK bytes of stack (measured by tests/c, with what the loader needs, and rounded up). It takes no memory
+ * from the heap, opens nothing and prints nothing. Of the C library the archive calls memset and its like and nothing else; it is
+ * position independent.
  * Nothing is shared between calls, so threads may call at the same time, each with outputs and an answer of its own.
  */
 #ifndef PAY_H
