@@ -79,12 +79,13 @@ module _ (f : Totals) (ks : List ℕ) (r : List ℕ) where
   AllHold [] = Unit {0}
   AllHold (w ∷ ws) = (passes w ≡ true) × AllHold ws
 
--- the rows that look at the record alone: its own rules
+-- a row that looks at the record alone
 abbrev pub alone : Row → Bool
 alone (at field from to x) = true
 alone (must t n field) = false
 alone (file t n field) = false
 
-unfoldable pub ownRows : List Row → List Row
-ownRows [] = []
-ownRows (w ∷ ws) = if alone w then (w ∷ ownRows ws) else ownRows ws
+-- the others: they ask the assignment, the process day or the file
+unfoldable pub otherRows : List Row → List Row
+otherRows [] = []
+otherRows (w ∷ ws) = if alone w then otherRows ws else (w ∷ otherRows ws)

@@ -6,7 +6,6 @@ use mathlib.Core.List.{List, [], _∷_}
 use mathlib.Core.Bool.{Bool, true, false, _||_}
 use Rattle.fields.specs.Bytes.{every, same, text, isDigit, isZero, isText}
 use Rattle.fields.specs.Accounts.{accountOf, isRight}
-use Rattle.fields.specs.Kids.{isKid}
 
 pub record Rule : Type 0 where
   pub test : List ℕ → Bool
@@ -42,7 +41,3 @@ listed ts = rule (oneOf ts) 7
 -- of eleven digits, the last is right, else 11
 abbrev pub rightAccount : Rule
 rightAccount = rule (λ s. isRight (accountOf s)) 11
-
--- a KID at either end, else 8
-abbrev pub kid : Rule
-kid = rule isKid 8

@@ -1,5 +1,5 @@
 -- What the operations tell a program in C or Rust: sixteen numbers for each answer, in document 01's numbers and values.
---   0         what: 0 refused, 1 accepted, 2 parted
+--   0         what: 0 refused, 1 accepted, 2 parted, 3 made
 --   1 to 4    of a refusal: number, operand, record, field
 --   5 to 9    figures: assignments, transactions, records, sum, first date
 --   10        bytes written into the output, of a parting into the first
@@ -12,6 +12,9 @@ use Rattle.dates.specs.declared.ProcessDay.{ProcessDay}
 use Rattle.figures.specs.declared.totals.Totals.{Totals}
 use Rattle.operations.specs.Closing.{fileBytes}
 use Rattle.operations.specs.Parting.{noBoundary}
+use Rattle.limits.specs.Limits.{recordBytes}
+use Rattle.operations.specs.declared.Making.{Making}
+use Rattle.operations.specs.declared.Making.the-variants.{Made, NotMade}
 use Rattle.operations.specs.declared.Parting.{Parting}
 use Rattle.operations.specs.declared.Parting.the-variants.{Parted, NoBoundary, NotParted}
 use Rattle.rules.specs.declared.Refusal.{Refusal}
@@ -45,3 +48,8 @@ unfoldable pub partedNumbers : Parting → List ℕ
 partedNumbers (Parted n m) = 2 ∷ 0 ∷ 0 ∷ 0 ∷ 0 ∷ 0 ∷ 0 ∷ 0 ∷ 0 ∷ 0 ∷ n ∷ 0 ∷ 0 ∷ 0 ∷ 0 ∷ m ∷ []
 partedNumbers (NoBoundary assignments) = refusedNumbers noBoundary
 partedNumbers (NotParted x) = refusedNumbers x
+
+-- making writes one record
+unfoldable pub madeNumbers : Making → List ℕ
+madeNumbers Made = 3 ∷ 0 ∷ 0 ∷ 0 ∷ 0 ∷ 0 ∷ 0 ∷ 0 ∷ 0 ∷ 0 ∷ recordBytes ∷ 0 ∷ 0 ∷ 0 ∷ 0 ∷ 0 ∷ []
+madeNumbers (NotMade x) = refusedNumbers x

@@ -7,10 +7,13 @@ use lib.ListN.{length}
 use Rattle.dates.specs.declared.ProcessDay.{ProcessDay}
 use Rattle.rules.specs.Run.{checkOf}
 use Rattle.rules.specs.declared.Verdict.{Verdict}
-use Rattle.operations.specs.Answers.{checkedNumbers, writtenNumbers, partedNumbers}
+use Rattle.rules.specs.declared.Kind.{Kind}
+use Rattle.operations.specs.Answers.{checkedNumbers, writtenNumbers, partedNumbers, madeNumbers}
 use Rattle.operations.specs.Closing.{closeOf, closedBytes}
 use Rattle.operations.specs.Joining.{joinOf, joinedBytes}
 use Rattle.operations.specs.Parting.{partOf, partedFirst, partedSecond}
+use Rattle.operations.specs.Making.{Put, makeOf, madeBytes}
+use Rattle.operations.specs.declared.Making.{Making}
 use Rattle.operations.specs.declared.Parting.{Parting}
 
 -- the answer alone: nothing is lent to be written
@@ -32,6 +35,11 @@ pub record PartPromise (day : ProcessDay) (file : List ℕ) (k : ℕ) (out1 out2
   pub leaves-first : after1 ≡ partedFirst day file k out1 out2
   pub leaves-second : after2 ≡ partedSecond day file k out1 out2
 
+-- of a record of this type, from these values
+pub record MakePromise (k : Kind) (ps : List Put) (out : List ℕ) (answer : Making) (after : List ℕ) : Type 0 where
+  pub answers : answer ≡ makeOf k ps (length out)
+  pub leaves : after ≡ madeBytes k ps out
+
 -- ---- for a program in C or Rust: the answer as numbers, and the same bytes
 pub record CheckNumbers (day : ProcessDay) (file answer : List ℕ) : Type 0 where
   pub answers : answer ≡ checkedNumbers (checkOf day file)
@@ -48,3 +56,7 @@ pub record PartNumbers (day : ProcessDay) (file : List ℕ) (k : ℕ) (out1 out2
   pub answers : answer ≡ partedNumbers (partOf day file k (length out1) (length out2))
   pub leaves-first : after1 ≡ partedFirst day file k out1 out2
   pub leaves-second : after2 ≡ partedSecond day file k out1 out2
+
+pub record MakeNumbers (k : Kind) (ps : List Put) (out answer after : List ℕ) : Type 0 where
+  pub answers : answer ≡ madeNumbers (makeOf k ps (length out))
+  pub leaves : after ≡ madeBytes k ps out

@@ -1,4 +1,4 @@
-// What the operations that write answer, and what they write: the definitions stand in specs/, and parting's answer here.
+// What the operations that write answer, and what they write: the definitions stand in specs/, and the answers of parting and making here.
 
 ghost use Prim.Native.Nat.{_*_, _≤_};
 ghost use mathlib.Core.Path.{_≡_};
@@ -14,6 +14,12 @@ pub enum Parting {
     Parted(usize, usize),
     NoBoundary(Count),
     NotParted(Refusal),
+}
+
+// What making a record answers.
+pub enum Making {
+    Made,
+    NotMade(Refusal),
 }
 
 // Document 01's refusal where there is no such boundary.

@@ -12,14 +12,14 @@ use Rattle.dates.specs.declared.Window.{Window}
 use Rattle.figures.specs.Figures.{amount, transactionNumber, within, limitWide, follows}
 use Rattle.figures.specs.Groups.{gives}
 use Rattle.figures.specs.declared.totals.Totals.{Totals}
-use Rattle.layout.specs.Rules.{Rule, rule, digits, zeros, textual, fixed, listed, rightAccount, kid}
+use Rattle.layout.specs.Rules.{Rule, rule, digits, zeros, textual, fixed, listed, rightAccount}
 use Rattle.layout.specs.Rows.{Row, at, must, file, takes, fresh, room, figure, Figure, transactions, records, sum, firstDate}
 use Rattle.services.specs.Services.{codeFor}
 use Rattle.rules.specs.Codes.{serviceCode, typeCode, kindOf, keyIn}
 use Rattle.rules.specs.Fields.{Field, on, numberIn, senderField, agreementField, assignmentField, transactionField, dateField, amountField, lineField, columnField, specifiedField, transactionsField, recordsField, sumField, firstDateField, lastDateField}
 use Rattle.rules.specs.Order.{mayFollow}
 use Rattle.rules.specs.Messages.{placeIn, taken}
-use Rattle.rules.specs.Payments.{typeListed, aDate, dateIn, amountIn, party, partyAccount, amountAllowed, limitFor, kidFor, name, postal, filler, line, column}
+use Rattle.rules.specs.Payments.{typeListed, aDate, dateIn, amountIn, party, partyAccount, amountAllowed, limitFor, kidOf, kidFor, name, postal, filler, line, column}
 use Rattle.rules.specs.declared.Kind.{Kind}
 use Rattle.rules.specs.declared.Kind.the-variants.{R10, R20, R30, R31, R40, R49, R50, R88, R89, Other}
 use Rattle.rules.specs.declared.Mode.{Mode}
@@ -72,11 +72,19 @@ record10 =
 abbrev pub mayOpen : Assignment → List Row
 mayOpen a = file room 16 4 ∷ groupGives a ∷ []
 
+-- field 2 where it repeats nothing: one of the two services
+abbrev pub aService : Row
+aService = at 2 3 4 (listed ("01" ∷ "04" ∷ []))
+
+-- field 3 where it repeats nothing: a type of the record's service
+abbrev pub aType : List ℕ → Row
+aType r = at 3 5 6 (typeListed (serviceCode r))
+
 -- fields 1 to 3 of 20
 abbrev pub head20 : List Row
 head20 =
     at 1 1 2 (fixed "NY") ∷
-    at 2 3 4 (listed ("01" ∷ "04" ∷ [])) ∷
+    aService ∷
     at 3 5 6 (fixed "00") ∷
     []
 
@@ -104,7 +112,7 @@ record20 a r = mayOpen a ++ head20 ++ key20 r ++ tail20
 
 -- fields 1 to 3 of 30
 abbrev pub head30 : Assignment → List ℕ → List Row
-head30 a r = (groupGives a ∷ belongs a r) ++ (at 3 5 6 (typeListed (serviceCode r)) ∷ [])
+head30 a r = (groupGives a ∷ belongs a r) ++ (aType r ∷ [])
 
 -- field 5: above 0 first, then one more
 abbrev pub number30 : Assignment → List ℕ → List Row
@@ -190,8 +198,8 @@ abbrev pub head50 : Assignment → List ℕ → List Row
 head50 a r = belongs a r ++ (at 3 5 6 (listed ("16" ∷ "17" ∷ [])) ∷ sameNumber a r)
 
 -- field 6 of 50
-abbrev pub kid50 : List Row
-kid50 = at 6 16 40 kid ∷ []
+abbrev pub kid50 : List ℕ → List Row
+kid50 r = at 6 16 40 (kidOf (serviceCode r)) ∷ []
 
 -- field 7 of 50, and the sum that it adds to: type 16 specifies, type 17 credits
 abbrev pub amount50 : List ℕ → ℕ
@@ -205,7 +213,7 @@ sum50 a r =
 
 abbrev pub record50 : Assignment → List ℕ → List Row
 record50 a r =
-    head50 a r ++ kid50 ++ sum50 a r ++
+    head50 a r ++ kid50 r ++ sum50 a r ++
     (at 8 58 80 zeros ∷
     [])
 

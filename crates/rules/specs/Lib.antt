@@ -7,3 +7,4 @@ pub mod Payments
 pub mod Layouts
 pub mod Growth
 pub mod Run
+pub mod Alone

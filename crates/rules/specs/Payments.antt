@@ -79,6 +79,14 @@ abbrev pub limitFor : Service → Amount
 limitFor Autogiro = limitWide
 limitFor Remittance = limit04
 
+-- a KID: service 01 takes only the right end
+unfoldable pub isKidOf : ℕ → List ℕ → Bool
+isKidOf s f = if eqb s 1 then atRight f else isKid f
+
+-- field 6 of a 50: a KID of the record's service, else 8
+abbrev pub kidOf : ℕ → Rule
+kidOf s = rule (isKidOf s) 8
+
 -- field 9: service 01 blank or KID; service 04 KID for type 12, blank for every other
 unfoldable pub kidForm : ℕ → ℕ → List ℕ → Bool
 kidForm s t f =

@@ -1,0 +1,1 @@
+// Short texts in wider fields.

@@ -1,0 +1,164 @@
+-- What lines of values make: a record for each line that bears one, up to the first that is refused.
+-- Assumes nothing.
+use Prim.Native.Nat.{ℕ, _+_, _-_}
+use Prim.Native.String.{String}
+use mathlib.Core.Path.{_≡_}
+use mathlib.Core.List.{List, [], _∷_, _++_}
+use mathlib.Core.Bool.{Bool, true, false}
+use lib.Dec.{eqb, leb}
+use lib.ListN.{length, getD, drop}
+use Rattle.choice.specs.Choice.{if_then_else_}
+use Rattle.limits.specs.Limits.{recordBytes, mostRecords}
+use Rattle.fields.specs.Bytes.{same, text}
+use Rattle.fields.specs.Numbers.{value}
+use Rattle.layout.specs.declared.Finding.{Finding}
+use Rattle.layout.specs.declared.Finding.the-variants.{Sound, Fault}
+use Rattle.rules.specs.Refusals.{refusal}
+use Rattle.rules.specs.declared.Kind.{Kind}
+use Rattle.rules.specs.declared.Kind.the-variants.{R10, R20, R30, R31, R40, R49, R50, R88, R89, Other}
+use Rattle.operations.specs.Making.{Put, made10, made20, made30, made31, made40, made49, made50, recordFrom, notMade, onSound, makeOf}
+use Rattle.operations.specs.declared.Making.{Making}
+use Rattle.operations.specs.declared.Making.the-variants.{Made, NotMade}
+use Rattle.make_lines.specs.Lines.{linesOf, valuesOf, passedOver, bearing, isNumeral}
+use Rattle.make_lines.specs.declared.Drafting.{Drafting}
+use Rattle.make_lines.specs.declared.Drafting.the-variants.{Drafted, NotDrafted}
+
+-- the record type that a line begins with
+unfoldable pub typeGiven : List ℕ → Kind
+typeGiven s =
+    if same s (text "10") then R10 else (if same s (text "20") then R20 else (if same s (text "30") then R30 else (if same s (text "31") then R31 else
+    (if same s (text "40") then R40 else (if same s (text "49") then R49 else (if same s (text "50") then R50 else Other))))))
+
+-- a value of a line: a number or a text, and its field
+pub data Slot : Type 0 where
+  numeral : ℕ → Slot
+  words : ℕ → Slot
+
+abbrev pub fieldOf : Slot → ℕ
+fieldOf (numeral k) = k
+fieldOf (words k) = k
+
+-- the values behind the record type, in their order
+abbrev pub slotsOf : Kind → List Slot
+slotsOf R10 = numeral 5 ∷ numeral 6 ∷ []
+slotsOf R20 = numeral 2 ∷ numeral 5 ∷ numeral 6 ∷ numeral 7 ∷ []
+slotsOf R30 = numeral 2 ∷ numeral 3 ∷ numeral 5 ∷ numeral 6 ∷ words 7 ∷ numeral 8 ∷ words 9 ∷ []
+slotsOf R31 = numeral 2 ∷ numeral 3 ∷ numeral 5 ∷ words 6 ∷ words 7 ∷ words 8 ∷ []
+slotsOf R40 = numeral 2 ∷ numeral 3 ∷ numeral 5 ∷ words 6 ∷ words 7 ∷ words 8 ∷ words 9 ∷ []
+slotsOf R49 = numeral 2 ∷ numeral 3 ∷ numeral 5 ∷ numeral 7 ∷ numeral 8 ∷ words 9 ∷ []
+slotsOf R50 = numeral 2 ∷ numeral 3 ∷ numeral 5 ∷ words 6 ∷ numeral 7 ∷ []
+slotsOf R88 = []
+slotsOf R89 = []
+slotsOf Other = []
+
+-- nothing but empty values, as a spreadsheet fills up its rows
+unfoldable pub allEmpty : List (List ℕ) → Bool
+allEmpty [] = true
+allEmpty ([] ∷ vs) = allEmpty vs
+allEmpty ((x ∷ s) ∷ vs) = false
+
+-- too few values: 8 at the field of the first that is missing; too many: 8, of no field
+unfoldable pub counted : List Slot → List (List ℕ) → Finding
+counted [] vs = if allEmpty vs then Sound else Fault 8 0
+counted (s ∷ ss) [] = Fault 8 (fieldOf s)
+counted (s ∷ ss) (v ∷ vs) = counted ss vs
+
+-- 8 at the first number that is none
+unfoldable pub numerals : List Slot → List (List ℕ) → Finding
+numerals [] vs = Sound
+numerals (s ∷ ss) [] = Sound
+numerals (numeral k ∷ ss) (v ∷ vs) = if isNumeral v then numerals ss vs else Fault 8 k
+numerals (words k ∷ ss) (v ∷ vs) = numerals ss vs
+
+-- the value in place i, as a text and as a number
+abbrev pub textAt : ℕ → List (List ℕ) → List ℕ
+textAt i vs = getD vs i []
+
+abbrev pub numberAt : ℕ → List (List ℕ) → ℕ
+numberAt i vs = value (textAt i vs)
+
+-- what the values of a line put into its record
+abbrev pub putsOf : Kind → List (List ℕ) → List Put
+putsOf R10 vs = made10 (numberAt 0 vs) (numberAt 1 vs)
+putsOf R20 vs = made20 (numberAt 0 vs) (numberAt 1 vs) (numberAt 2 vs) (numberAt 3 vs)
+putsOf R30 vs = made30 (numberAt 0 vs) (numberAt 1 vs) (numberAt 2 vs) (numberAt 3 vs) (textAt 4 vs) (numberAt 5 vs) (textAt 6 vs)
+putsOf R31 vs = made31 (numberAt 0 vs) (numberAt 1 vs) (numberAt 2 vs) (textAt 3 vs) (textAt 4 vs) (textAt 5 vs)
+putsOf R40 vs = made40 (numberAt 0 vs) (numberAt 1 vs) (numberAt 2 vs) (textAt 3 vs) (textAt 4 vs) (textAt 5 vs) (textAt 6 vs)
+putsOf R49 vs = made49 (numberAt 0 vs) (numberAt 1 vs) (numberAt 2 vs) (numberAt 3 vs) (numberAt 4 vs) (textAt 5 vs)
+putsOf R50 vs = made50 (numberAt 0 vs) (numberAt 1 vs) (numberAt 2 vs) (textAt 3 vs) (numberAt 4 vs)
+putsOf R88 vs = []
+putsOf R89 vs = []
+putsOf Other vs = []
+
+-- of a line with this record type and these values: how many there are, then numbers, then the making
+unfoldable pub kindMaking : Kind → List (List ℕ) → ℕ → Making
+kindMaking Other vs room = notMade 7 4
+kindMaking k vs room = onSound (counted (slotsOf k) vs) (onSound (numerals (slotsOf k) vs) (makeOf k (putsOf k vs) room))
+
+abbrev pub kindIn : List ℕ → Kind
+kindIn l = typeGiven (getD (valuesOf l) 0 [])
+
+-- the values behind the record type
+abbrev pub givenIn : List ℕ → List (List ℕ)
+givenIn l = drop 1 (valuesOf l)
+
+abbrev pub lineMaking : List ℕ → ℕ → Making
+lineMaking l room = kindMaking (kindIn l) (givenIn l) room
+
+abbrev pub lineRecord : List ℕ → List ℕ
+lineRecord l = recordFrom (putsOf (kindIn l) (givenIn l))
+
+-- a refusal of the values bears the line in the place of a record
+abbrev pub notDrafted : ℕ → ℕ → ℕ → Drafting
+notDrafted n line k = NotDrafted (refusal n 0 line k)
+
+abbrev pub onMade : Making → ℕ → Drafting → Drafting
+onMade Made i x = x
+onMade (NotMade x) i rest = notDrafted (x .number) i (x .field)
+
+-- the lines in turn, after i lines and n records, with this room left
+unfoldable pub draftFrom : ℕ → ℕ → ℕ → List (List ℕ) → Drafting
+draftFrom room i n [] = Drafted n
+draftFrom room i n (l ∷ ls) =
+    if passedOver l then draftFrom room (i + 1) n ls
+    else onMade (lineMaking l room) (i + 1) (draftFrom (room - recordBytes) (i + 1) (n + 1) ls)
+
+abbrev pub recordsOn : Making → List ℕ → List ℕ → List ℕ
+recordsOn Made r rest = r ++ rest
+recordsOn (NotMade x) r rest = []
+
+-- their records, up to the first line that is refused
+unfoldable pub recordsFrom : ℕ → List (List ℕ) → List ℕ
+recordsFrom room [] = []
+recordsFrom room (l ∷ ls) =
+    if passedOver l then recordsFrom room ls
+    else recordsOn (lineMaking l room) (lineRecord l) (recordsFrom (room - recordBytes) ls)
+
+-- a draft has at least an 88 and an 89 less than its file
+abbrev pub mostDrafted : ℕ
+mostDrafted = mostRecords - 2
+
+-- how many records the values have: none is 2, more than any file takes is 3
+unfoldable pub enough : ℕ → Finding
+enough n = if eqb n 0 then Fault 2 0 else (if leb n mostDrafted then Sound else Fault 3 0)
+
+abbrev pub onEnough : Finding → Drafting → Drafting
+onEnough Sound x = x
+onEnough (Fault n k) x = notDrafted n 0 k
+
+abbrev pub bytesOn : Finding → List ℕ → List ℕ
+bytesOn Sound x = x
+bytesOn (Fault n k) x = []
+
+-- what making a draft from values answers, into an output of this length
+unfoldable pub draftOf : List ℕ → ℕ → Drafting
+draftOf v room = onEnough (enough (bearing (linesOf v))) (draftFrom room 0 0 (linesOf v))
+
+-- the records that it writes
+unfoldable pub draftBytes : List ℕ → ℕ → List ℕ
+draftBytes v room = bytesOn (enough (bearing (linesOf v))) (recordsFrom room (linesOf v))
+
+-- the answer, and the whole output afterwards: what was made before a refused line lies over its start
+pub record DraftPromise (v out : List ℕ) (answer : Drafting) (after : List ℕ) : Type 0 where
+  pub answers : answer ≡ draftOf v (length out)
+  pub leaves : after ≡ draftBytes v (length out) ++ drop (length (draftBytes v (length out))) out
