@@ -3,12 +3,12 @@ use mathlib.Core.Path.{_≡_, refl, sym, ap, _∙_}
 use mathlib.Core.List.{[], _∷_, _++_, append-assoc}
 use native.Mathlib.Omega.{arith}
 use lib.ListN.{length, take, drop, length-set, length-append}
-use Rattle.write_file.proofs.Wrote.{Wrote, wrote-none, wrote-length, copied-more, told}
+use Rattle.field_texts.proofs.Wrote.{Wrote, wrote-none, wrote-length, copied-more, told}
 use lib.Seq.{take-all}
-use Rattle.write_file.proofs.copy_to.Statement.{statement}
-use Rattle.write_file.proofs.copy_to.Tie as tie
-use Rattle.write_file.proofs.copy_to.Reads as reads
-use Rattle.write_file.proofs.copy_to.Lts as lts
+use Rattle.field_texts.proofs.copy_to.Statement.{statement}
+use Rattle.field_texts.proofs.copy_to.Tie as tie
+use Rattle.field_texts.proofs.copy_to.Reads as reads
+use Rattle.field_texts.proofs.copy_to.Lts as lts
 
 abbrev Inv-loop : tie.InvT-loop
 Inv-loop out₀ bytes count i₀ out i = (i ≤ length bytes) × (length bytes ≤ length out₀) × (count ≡ length bytes) × Wrote (take i bytes) out₀ out

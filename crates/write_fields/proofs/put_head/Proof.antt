@@ -3,15 +3,15 @@ use mathlib.Core.Path.{_≡_, refl}
 use mathlib.Core.List.{List, [], _∷_, _++_, append-assoc}
 use native.Mathlib.Omega.{arith}
 use Rattle.fields.specs.Numbers.{written}
-use Rattle.write_file.specs.Parts.{headBytes}
-use Rattle.write_file.proofs.Wrote.{Upto, nothing, one-byte, one-number, done, head-is}
+use Rattle.write_fields.specs.Parts.{headBytes}
+use Rattle.write_fields.proofs.Places.{Upto, nothing, one-byte, one-number, done, head-is}
 use borrow.Author.Needs.{needs}
-use Rattle.write_file.proofs.put_head.Statement.{statement}
-use Rattle.write_file.proofs.put_head.Tie as tie
-use Rattle.write_file.proofs.put_head.Reads as reads
-use Rattle.write_file.proofs.put_head.Lts as lts
-use Rattle.write_file.proofs.put_byte.Reads as put-byte-reads
-use Rattle.write_file.proofs.put_digits.Reads as put-digits-reads
+use Rattle.write_fields.proofs.put_head.Statement.{statement}
+use Rattle.write_fields.proofs.put_head.Tie as tie
+use Rattle.write_fields.proofs.put_head.Reads as reads
+use Rattle.write_fields.proofs.put_head.Lts as lts
+use Rattle.write_fields.proofs.put_byte.Reads as put-byte-reads
+use Rattle.write_fields.proofs.put_digits.Reads as put-digits-reads
 
 put-byte-requires : tie.Need-put-byte-requires
 put-byte-requires c κs = search needs
@@ -39,11 +39,10 @@ returns c =
     let p2 = p3 .before .before .before .before in
     let p1 = p2 .before .before .before .before in
     let s = p1 .before .before .before in
-    let w1 = one-byte 0 78 (nothing (s .args .out .now)) (omega arith) (p1 .put-byte .ensures) in
-    let w2 = one-byte 1 89 w1 (omega arith) (p2 .put-byte2 .ensures) in
-    let w3 = one-number 2 2 (s .args .service) w2 (omega arith) (p3 .put-digits .ensures) in
-    let w4 = one-number 4 2 0 w3 (omega arith) (p4 .put-digits2 .ensures) in
-    done 8 (headBytes (s .args .service) (s .args .kind)) (head-is (s .args .service) (s .args .kind)) (one-number 6 2 (s .args .kind) w4 (omega arith) (p5 .put-digits3 .ensures))
+    let a = s .args in
+    let w2 = one-byte 89 (one-byte 78 (nothing (a .out .now)) (p1 .put-byte .ensures)) (p2 .put-byte2 .ensures) in
+    let w4 = one-number 2 _ (one-number _ _ w2 (p3 .put-digits .ensures)) (p4 .put-digits2 .ensures) in
+    done _ (head-is (a .service) (a .code) (a .kind)) (one-number 2 (a .kind) w4 (p5 .put-digits3 .ensures))
 
 pub put-head-spec : {M : Type 1} → statement M
 put-head-spec =

@@ -1,9 +1,9 @@
-use Rattle.write_file.proofs.Wrote.{set-byte}
+use Rattle.field_texts.proofs.Wrote.{set-byte}
 use borrow.Author.Needs.{needs}
-use Rattle.write_file.proofs.put_byte.Statement.{statement}
-use Rattle.write_file.proofs.put_byte.Tie as tie
-use Rattle.write_file.proofs.put_byte.Reads as reads
-use Rattle.write_file.proofs.put_byte.Lts as lts
+use Rattle.write_fields.proofs.put_byte.Statement.{statement}
+use Rattle.write_fields.proofs.put_byte.Tie as tie
+use Rattle.write_fields.proofs.put_byte.Reads as reads
+use Rattle.write_fields.proofs.put_byte.Lts as lts
 
 slice-write-out : tie.Need-slice-write-out
 slice-write-out c = search needs
