@@ -9,7 +9,7 @@ use Rattle.fields.specs.Numbers.{value}
 use Rattle.field_texts.specs.Texts.{toLeft, toRight}
 use Rattle.figures.specs.Totals.{none}
 use Rattle.limits.specs.Limits.{recordBytes}
-use Rattle.layout.specs.Rows.{Row, passes, AllHold, rowNumber, rowField}
+use Rattle.layout.specs.Rows.{AllHold}
 use Rattle.rules.specs.Alone.{ownTable}
 use Rattle.rules.specs.Codes.{serviceCode, typeCode}
 use Rattle.rules.specs.Fields.{numberIn, senderField, agreementField, assignmentField, transactionField, dateField, amountField, lineField, columnField, specifiedField}
@@ -17,6 +17,7 @@ use Rattle.rules.specs.declared.Kind.{Kind}
 use Rattle.rules.specs.declared.Kind.the-variants.{R10, R20, R30, R31, R40, R49, R50}
 use Rattle.operations.specs.Making.{Put, made10, made20, made30, made31, made40, made49, made50, recordFrom, notMade}
 use Rattle.operations.specs.declared.Making.{Making}
+use Rattle.laws.specs.Meets.{Broken}
 
 -- every value fits into its field
 unfoldable pub AllFit : List Put → Type 0
@@ -38,21 +39,14 @@ abbrev pub OwnHold : Kind → List ℕ → Type 0
 OwnHold k r = AllHold none [] r (ownTable k r)
 
 -- the first of them that does not, with number n and field k
-pub record OwnFault (kind : Kind) (r : List ℕ) (n k : ℕ) : Type 0 where
-  pub held : List Row
-  pub row : Row
-  pub unseen : List Row
-  pub table : ownTable kind r ≡ held ++ (row ∷ unseen)
-  pub hold : AllHold none [] r held
-  pub fails : passes none [] r row ≡ false
-  pub number : rowNumber row ≡ n
-  pub field : rowField row ≡ k
+abbrev pub OwnFault : Kind → List ℕ → ℕ → ℕ → Type 0
+OwnFault kind r n k = Broken none [] r (ownTable kind r) n k
 
 -- what is made
 pub record Makes (kind : Kind) (ps : List Put) (room : ℕ) : Type 0 where
   pub fit : AllFit ps
   pub own : OwnHold kind (recordFrom ps)
-  pub room : recordBytes ≤ room
+  pub enough : recordBytes ≤ room
 
 -- why a record is refused, and with what
 pub data MakeRefusing (kind : Kind) (ps : List Put) (room : ℕ) : Making → Type 0 where
