@@ -11,17 +11,16 @@ use std::path::Path;
 use std::{fs, io};
 
 fn close_on(day: Day, draft: &[u8], room: usize) -> Case {
-    let operation = Operation::Close;
-    Case { operation, day, first: draft.to_vec(), second: vec![], k: 0, rooms: [room, 0] }
+    Case { rooms: [room, 0], ..Case::new(Operation::Close, day, draft.to_vec()) }
 }
 
 fn join_on(day: Day, first: &[u8], second: &[u8], room: usize) -> Case {
-    let (first, second) = (first.to_vec(), second.to_vec());
-    Case { operation: Operation::Join, day, first, second, k: 0, rooms: [room, 0] }
+    let case = Case::new(Operation::Join, day, first.to_vec());
+    Case { second: second.to_vec(), rooms: [room, 0], ..case }
 }
 
 fn part_on(day: Day, file: &[u8], k: u64, rooms: [usize; 2]) -> Case {
-    Case { operation: Operation::Part, day, first: file.to_vec(), second: vec![], k, rooms }
+    Case { k, rooms, ..Case::new(Operation::Part, day, file.to_vec()) }
 }
 
 /// Closed into an output that is just long enough.
