@@ -151,7 +151,11 @@ pub fn case(seed: u64, index: u64, operations: &[Operation]) -> Case {
     let (makings, others): (Vec<Operation>, Vec<Operation>) =
         operations.iter().partition(|operation| operation.is_making());
     let is_making = others.is_empty() || !makings.is_empty() && random.percent(20);
-    let operation = random.pick(if is_making { &makings } else { &others });
+    // A record 30 has the most rules.
+    let operation = match operations.contains(&Operation::Make30) {
+        true if is_making && random.percent(30) => Operation::Make30,
+        _ => random.pick(if is_making { &makings } else { &others }),
+    };
     let size = random.below(20_000);
     if let Some(kind) = operation.makes() {
         return making(&mut random, operation, kind);

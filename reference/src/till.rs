@@ -74,7 +74,7 @@ pub fn values(random: &mut Random, kind: &[u8; 2]) -> (Vec<u64>, Vec<Vec<u8>>) {
     };
     let (numbers, texts) = slots(kind, service == 4 && code == 4);
     let slots = numbers.len() + texts.len();
-    let chance = random.pick(&[0, 0, 0, 5, 30, 100]);
+    let chance = random.pick(&[0, 0, 0, 0, 5, 30]);
     let one = if random.percent(55) { random.index(slots) } else { slots };
     let mut till = Till { random, kind: *kind, service, code };
     let mut at = 0;
@@ -150,7 +150,7 @@ impl Till<'_> {
         };
         let end = 10u64.pow(width);
         let far = random.draw();
-        if random.percent(50) {
+        if random.percent(35) {
             let places = random.below(19) as u32;
             return random.pick(&[
                 0,
@@ -183,7 +183,10 @@ impl Till<'_> {
                 random.pick(&[none, none, near, near, any, 0, 11_125, 1_100, 321_225, 11_325])
             }
             Account => self.wrong_account().parse().expect("digits"),
-            Amount => random.pick(&[0, 1, 9_999_999_999, 10_000_000_000, 99_999_999_999, MOST]),
+            Amount => match self.code {
+                16 => random.pick(&[0, 0, 1]),
+                _ => random.pick(&[0, 9_999_999_999, 10_000_000_000, 99_999_999_999, MOST]),
+            },
             Line => random.pick(&[0, 1, 21, 22, 23, 100, 121, 210, 999]),
             Column => random.below(10),
         }
@@ -294,8 +297,9 @@ impl Till<'_> {
             Party => 11,
             Kid => 25,
         };
-        let any = self.random.index(2 * width + 2);
-        let length = self.random.pick(&[0, 1, width - 1, width, width + 1, width + 2, 300, any]);
+        let (fits, any) = (self.random.index(width + 1), self.random.index(2 * width + 2));
+        let lengths = [0, 1, width - 1, width, width, fits, fits, width + 1, width + 2, 300, any];
+        let length = self.random.pick(&lengths);
         let mut sound = self.text(slot);
         match self.random.below(12) {
             // Too long by blanks, before or behind.
