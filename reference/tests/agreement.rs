@@ -140,7 +140,7 @@ fn cases_of_every_operation() {
         let found = [written(&one), written(&two)];
         match (case.operation, Place::What.of(&answer)) {
             // Records made before a refused line stay.
-            (Operation::MakeDraft, 0) => assert!(found[0] % RECORD == 0, "case {index}"),
+            (Operation::MakeDraft, 0) => assert!(found[0].is_multiple_of(RECORD), "case {index}"),
             _ => assert_eq!(told, found, "case {index}"),
         }
         seen[Place::Number.of(&answer) as usize] += 1;

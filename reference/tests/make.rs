@@ -104,7 +104,7 @@ fn document_01s_file_from_values() {
     let (closed, file) = close(&out, 486);
     assert!(closed.is_ok());
     assert_eq!(file, whole());
-    assert_eq!(till::plain_lines(&draft), WHOLE.replace("011125", "011125").into_bytes());
+    assert_eq!(till::plain_lines(&draft), WHOLE.as_bytes());
 }
 
 #[test]
@@ -330,6 +330,125 @@ fn made_records_read_back() {
     for number in [7, 8, 9, 11, 13, 22] {
         assert!(numbers[number] > 100, "{number}: {numbers:?}");
     }
+}
+
+/// A record written by hand, whatever it says, if its values have room in it.
+fn by_hand(values: Values) -> Option<Vec<u8>> {
+    let left = |text: &[u8], width| [text, &b" ".repeat(width)].concat()[..width].to_vec();
+    let right = |text: &[u8], width: usize| [&b" ".repeat(width - text.len()), text].concat();
+    let fits = |text: &[u8], width| text.len() <= width;
+    let head = |service, code, kind, number| {
+        format!("NY{service:02}{code:02}{kind}{number:07}").into_bytes()
+    };
+    let record = match values {
+        Values::Amount1 { service, code, number, date, party, amount, kid } => {
+            let fits = fits(party, 11) && fits(kid, 25);
+            fits.then(|| {
+                let date = format!("{date:06}").into_bytes();
+                let amount = format!("{amount:017}").into_bytes();
+                let head = head(service, code, 30, number);
+                [head, date, right(party, 11), amount, right(kid, 25)].concat()
+            })?
+        }
+        Values::Amount2 { service, code, number, texts: [six, seven, eight] } => {
+            let fits = fits(six, 10) && fits(seven, 25) && fits(eight, 25);
+            let texts = [left(six, 10), left(seven, 25), left(eight, 25)].concat();
+            fits.then(|| [head(service, code, 31, number), texts].concat())?
+        }
+        Values::Address { service, code, number, name, postal, filler, area } => {
+            let fits = fits(name, 30) && fits(postal, 4) && fits(filler, 3) && fits(area, 25);
+            let texts = [left(name, 30), left(postal, 4), left(filler, 3), left(area, 25)];
+            fits.then(|| [head(service, code, 40, number), texts.concat()].concat())?
+        }
+        Values::Message { service, code, number, line, column, text } => {
+            let place = format!("3{line:03}{column}").into_bytes();
+            let head = head(service, code, 49, number);
+            fits(text, 40).then(|| [head, place, left(text, 40)].concat())?
+        }
+        Values::SubSpec { service, code, number, kid, amount } => {
+            let amount = format!("{amount:017}").into_bytes();
+            fits(kid, 25)
+                .then(|| [head(service, code, 50, number), right(kid, 25), amount].concat())?
+        }
+        _ => return None,
+    };
+    // A number that is too long makes it longer.
+    let length = match values {
+        Values::Amount1 { .. } => 74,
+        Values::Amount2 { .. } => 75,
+        Values::Address { .. } => 77,
+        Values::Message { .. } => 60,
+        _ => 57,
+    };
+    if record.len() != length {
+        return None;
+    }
+    let rest = [b"0".repeat(80 - length), b"\n".to_vec()].concat();
+    Some([record, rest].concat())
+}
+
+/// The same records in a draft, where nothing but they can be at fault: closing refuses them by
+/// the same number and field, or goes on.
+#[test]
+fn judged_as_in_a_draft() {
+    let makings = &Operation::ALL[6..11];
+    let mut compared = [0u32; 5];
+    for index in 0..60_000 {
+        let mut case = case(4, index, makings);
+        // Number 1 agrees; 0 and what does not agree are closing's.
+        case.numbers[2] = 1;
+        let values = case.values().expect("values");
+        let Some(record) = by_hand(values) else { continue };
+        let mut out = [FILLER; RECORD];
+        let making = make(values, &mut out);
+        if making.is_ok() {
+            assert_eq!(out[..], record, "{values:?}");
+        }
+        let (service, code) = (case.numbers[0], case.numbers[1]);
+        let (service, code) = (format!("{service:02}"), format!("{code:02}"));
+        let mut before = vec![r10(), r20(&service, 1, 1)];
+        let mut day = DAY;
+        let which = match values {
+            // The assignment's limit and the window are closing's.
+            Values::Amount1 { service: 1 | 4, amount: 0..10_000_000_000_000, date, .. } => {
+                let date = (2000 + date % 100, date / 100 % 100, date / 10_000);
+                let is_date = reference::check(date, b"") == Err(refused(2, 0, 0));
+                day = if is_date { date } else { DAY };
+                0
+            }
+            Values::Amount2 { service: 1, code: 2 | 3, .. }
+            | Values::Amount2 { service: 4, code: 1..=4 | 12 | 16 | 66, .. } => 1,
+            Values::Address { service: 4, code: 3 | 4, .. } => 2,
+            Values::Message { service: 1, code: 3, .. } => 3,
+            Values::SubSpec { service: 4, .. } => 4,
+            _ => continue,
+        };
+        let code = if which == 4 { "16" } else { &code };
+        let kid = if service == "04" && code == "12" { "1" } else { "" };
+        if which > 0 {
+            before.push(r30(&service, code, 1, "011125", 1, kid));
+        }
+        if which > 1 {
+            before.push(r31(&service, code, 1));
+        }
+        let draft = [bytes(&before), record].concat();
+        let at = before.len() as u32 + 1;
+        let closing = close_on(day, &draft, 2 * draft.len()).0;
+        match making {
+            Err(Refused { number, field, .. }) => {
+                assert_eq!(closing, Err(refused(number, at, field)), "{values:?}");
+                compared[which] += 1;
+            }
+            // Accepted, or the draft is not at its end, or the group does not add up.
+            Ok(()) => assert!(
+                closing.is_ok()
+                    || closing == Err(refused(6, at + 1, 0))
+                    || closing == Err(refused(14, at + 1, 0)),
+                "{values:?} {closing:?}"
+            ),
+        }
+    }
+    assert!(compared.iter().all(|&count| count > 100), "{compared:?}");
 }
 
 #[test]
