@@ -38,32 +38,38 @@ fn zeros(kind: &[u8; 2]) -> Record {
     record
 }
 
-/// Puts a number to the right into a field of zeros, in which it has room.
+/// Puts a number to the right, two digits at a time, into a field of zeros. It has room.
 #[inline]
 fn put(field: &mut [u8], mut value: u64) {
-    for byte in field.iter_mut().rev() {
+    for digits in field.rchunks_mut(2) {
         if value == 0 {
             return;
         }
-        *byte = b'0' + (value % 10) as u8;
-        value /= 10;
+        let pair = (value % 100) as u8;
+        value /= 100;
+        match digits {
+            [tens, ones] => {
+                *tens = b'0' + pair / 10;
+                *ones = b'0' + pair % 10;
+            }
+            _ => digits[0] = b'0' + pair,
+        }
     }
 }
 
 /// Puts a text to the left, blanks behind it.
 #[inline]
 fn put_left(field: &mut [u8], text: &[u8]) {
-    let (here, behind) = field.split_at_mut(text.len());
-    here.copy_from_slice(text);
-    behind.fill(b' ');
+    field.fill(b' ');
+    field[..text.len()].copy_from_slice(text);
 }
 
 /// Puts a text to the right, blanks before it.
 #[inline]
 fn put_right(field: &mut [u8], text: &[u8]) {
-    let (before, here) = field.split_at_mut(field.len() - text.len());
-    before.fill(b' ');
-    here.copy_from_slice(text);
+    field.fill(b' ');
+    let from = field.len() - text.len();
+    field[from..].copy_from_slice(text);
 }
 
 /// Refuses a number of more than so many places.
