@@ -28,6 +28,10 @@ pub record Upto (at : ℕ) (a d out : List ℕ) : Type 0 where
 pub nothing : (d : List ℕ) → Upto 0 [] d d
 nothing d = record { is = refl; here = refl }
 
+-- a call that wrote w over the start
+pub begun : {n : ℕ} (w d : List ℕ) {out : List ℕ} → length w ≡ n → out ≡ w ++ drop n d → Upto n w d out
+begun w d e q = record { is = q; here = e }
+
 -- n bytes more, put behind them
 pub some : {at : ℕ} (n : ℕ) {a d out after : List ℕ} (w : List ℕ) → Upto at a d out → length w ≡ n → after ≡ take at out ++ (w ++ drop (at + n) out) → Upto (at + n) (a ++ w) d after
 some {at} n {a} {d} {out} {after} w h e q =

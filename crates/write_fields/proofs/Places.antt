@@ -5,12 +5,12 @@ use mathlib.Core.Path.{_≡_, refl, ap, _∙_}
 use mathlib.Core.List.{List, [], _∷_, _++_, append-assoc}
 use lib.ListN.{length, take, drop, length-append}
 use Rattle.field_texts.specs.Texts.{toLeft, toRight}
-use Rattle.field_texts.proofs.Wrote.{Upto, some}
+use Rattle.field_texts.proofs.Wrote.{Upto, begun, some}
 use Rattle.field_texts.proofs.Widths.{left-length, right-length}
 use Rattle.fields.specs.Numbers.{written}
 use Rattle.fields.proofs.Values.{written-length}
 use Rattle.write_fields.specs.Parts.{headBytes}
-pub use Rattle.field_texts.proofs.Wrote.{Wrote, wrote-none, wrote-length, at-first, behind, told, whole, Upto, nothing, some, done}
+pub use Rattle.field_texts.proofs.Wrote.{Wrote, wrote-none, wrote-length, at-first, behind, told, whole, Upto, nothing, begun, some, done}
 
 -- a byte put behind what is written
 pub one-byte : (b : ℕ) {at : ℕ} {a d out after : List ℕ} → Upto at a d out → after ≡ take at out ++ ((b ∷ []) ++ drop (at + 1) out) → Upto (at + 1) (a ++ (b ∷ [])) d after
@@ -38,3 +38,7 @@ head-is service code kind = simp append-assoc
 pub head-length : (service code kind : ℕ) → length (headBytes service code kind) ≡ 8
 unfolding headBytes
 head-length service code kind = simp (length-append, written-length)
+
+-- a record that starts with its fields 1 to 4
+pub headed : (service code kind : ℕ) (d : List ℕ) {out : List ℕ} → out ≡ headBytes service code kind ++ drop 8 d → Upto 8 (headBytes service code kind) d out
+headed service code kind d q = begun (headBytes service code kind) d (head-length service code kind) q
