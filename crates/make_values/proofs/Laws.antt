@@ -89,10 +89,6 @@ module _ (s t n : ℕ) where
   long-50 k a = behind-opening R50 s t n (right 6 25 k ∷ number 7 17 a ∷ zeros 23 ∷ []) ∙ in-turn (openingLong s t n) (right 6 25 k ∷ number 7 17 a ∷ [])
 
 -- ---- what is put
--- what was put over the start
-pub started : (n : ℕ) (w d : List ℕ) {out : List ℕ} → length w ≡ n → out ≡ w ++ drop n d → Upto n w d out
-started n w d l e = record { is = e; here = l }
-
 -- all of it is put
 pub all-put : {n : ℕ} {a d out : List ℕ} (w : List ℕ) → length d ≡ n → a ≡ w → Upto n a d out → out ≡ w
 all-put {n} {a} {d} w l e h = h .is ∙ ap (λ (x : List ℕ). a ++ x) (drop-of-length-le d {i = n} (omega arith)) ∙ append-nil a ∙ e

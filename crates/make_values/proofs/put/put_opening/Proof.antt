@@ -3,8 +3,7 @@
 use mathlib.Core.Path.{refl}
 use Rattle.make_values.specs.Opening.{openingBytes}
 use Rattle.write_fields.specs.Parts.{headBytes}
-use Rattle.write_fields.proofs.Places.{done, head-length, one-number}
-use Rattle.make_values.proofs.Laws.{started}
+use Rattle.write_fields.proofs.Places.{begun, done, head-length, one-number}
 use borrow.Author.Needs.{needs}
 use Rattle.make_values.proofs.put.put_opening.Statement.{statement}
 use Rattle.make_values.proofs.put.put_opening.Tie as tie
@@ -28,7 +27,7 @@ returns c =
     let p2 = c .before .before in
     let p1 = p2 .before .before .before .before in
     let a = p1 .before .before .before .args in
-    done _ refl (one-number _ _ (started 8 (headBytes (a .service) (a .code) (a .kind)) (a .r .now) (head-length (a .service) (a .code) (a .kind)) (p1 .put-head .ensures)) (p2 .put-digits .ensures))
+    done _ refl (one-number _ _ (begun (headBytes (a .service) (a .code) (a .kind)) (a .r .now) (head-length (a .service) (a .code) (a .kind)) (p1 .put-head .ensures)) (p2 .put-digits .ensures))
 
 pub put-opening-spec : {M : Type 1} → statement M
 put-opening-spec = tie.close (tie.spec put-head-requires put-digits-requires same-length returns)
