@@ -2,6 +2,9 @@
 
 use rules::Refusal;
 
+pub mod lines;
+mod slots;
+
 // What making a draft answers: how many records it has, or a refusal that bears the line in the place of a record.
 pub enum Drafting {
     Drafted(u64),
