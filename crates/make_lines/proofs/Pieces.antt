@@ -230,7 +230,7 @@ module _ (s : List ℕ) where
   return-not n l h =
       sym (last-return s n (omega arith) ∙ simp (ne-eqb (getD s n 0) 13 h))
 
--- ---- lines that are passed over
+  -- ---- lines that are passed over
   pub passed-empty : length s ≡ 0 → true ≡ passedOver s
   unfolding passedOver every
   passed-empty h =
@@ -248,7 +248,7 @@ module _ (s : List ℕ) where
   unfolding passedOver
   passed-else h e = sym (simp (remark-is h, ne-eqb (getD s 0 0) 35 e))
 
--- ---- values
+  -- ---- values
   pub value-start : (i : ℕ) → fromValue (i - 0) s ≡ fromValue i s
   value-start i = ap (λ (j : ℕ). fromValue j s) (sub-zero i)
 

@@ -96,18 +96,22 @@ putsOf Other vs = []
 abbrev pub slotsFound : Kind → List (List ℕ) → Finding
 slotsFound k vs = orElse (counted (slotsOf k) vs) (numerals (slotsOf k) vs)
 
+-- the record types that lines have: the end records are made by closing
+abbrev pub isGiven : Kind → Bool
+isGiven R10 = true
+isGiven R20 = true
+isGiven R30 = true
+isGiven R31 = true
+isGiven R40 = true
+isGiven R49 = true
+isGiven R50 = true
+isGiven R88 = false
+isGiven R89 = false
+isGiven Other = false
+
 -- what is found before a record is made: another record type is 7
 unfoldable pub faultIn : Kind → List (List ℕ) → Finding
-faultIn R10 vs = slotsFound R10 vs
-faultIn R20 vs = slotsFound R20 vs
-faultIn R30 vs = slotsFound R30 vs
-faultIn R31 vs = slotsFound R31 vs
-faultIn R40 vs = slotsFound R40 vs
-faultIn R49 vs = slotsFound R49 vs
-faultIn R50 vs = slotsFound R50 vs
-faultIn R88 vs = Fault 7 4
-faultIn R89 vs = Fault 7 4
-faultIn Other vs = Fault 7 4
+faultIn k vs = if isGiven k then slotsFound k vs else Fault 7 4
 
 -- of a line with this record type and these values
 abbrev pub kindMaking : Kind → List (List ℕ) → ℕ → Making

@@ -6,7 +6,7 @@ ghost use Prim.Native.Nat.{_≤_};
 ghost use lib.ListN.{length, getD, drop};
 ghost use Rattle.fields.specs.Bytes.{same};
 ghost use Rattle.make_lines.specs.Lines.{valuesOf};
-ghost use Rattle.make_lines.specs.Draft.{typeGiven, slotsOf, fieldOf, slotFound, counted, numerals, slotsFound, faultIn, kindIn, givenIn};
+ghost use Rattle.make_lines.specs.Draft.{typeGiven, slotsOf, fieldOf, slotFound, counted, numerals, slotsFound, isGiven, faultIn, kindIn, givenIn};
 use crate::lines::find;
 use crate::lines::is_numeral;
 use crate::lines::only_semicolons;
@@ -253,20 +253,30 @@ fn slots_found(kind: Kind, line: &[u8]) -> Finding
     counted(kind, line).or_else(numerals(kind, line))
 }
 
+// The record types that lines have.
+fn is_given(kind: Kind) -> bool
+    ensures { λ x. ⌜ x ≡ isGiven kind ⌝ }
+{
+    match kind {
+        Kind::R10 => true,
+        Kind::R20 => true,
+        Kind::R30 => true,
+        Kind::R31 => true,
+        Kind::R40 => true,
+        Kind::R49 => true,
+        Kind::R50 => true,
+        Kind::R88 => false,
+        Kind::R89 => false,
+        Kind::Other => false,
+    }
+}
+
 // What is found before a record is made.
 pub fn fault_in(kind: Kind, line: &[u8]) -> Finding
     ensures { λ x. ⌜ x ≡ faultIn kind (givenIn (now (line .entry))) ⌝ }
 {
-    match kind {
-        Kind::R10 => slots_found(kind, line),
-        Kind::R20 => slots_found(kind, line),
-        Kind::R30 => slots_found(kind, line),
-        Kind::R31 => slots_found(kind, line),
-        Kind::R40 => slots_found(kind, line),
-        Kind::R49 => slots_found(kind, line),
-        Kind::R50 => slots_found(kind, line),
-        Kind::R88 => Finding::Fault(7, 4),
-        Kind::R89 => Finding::Fault(7, 4),
-        Kind::Other => Finding::Fault(7, 4),
+    if is_given(kind) {
+        return slots_found(kind, line);
     }
+    Finding::Fault(7, 4)
 }

@@ -34,7 +34,7 @@ part-result-end : tie.Need-part-result-end Inv-loop μ-loop
 part-result-end c = search needs
 
 returns : tie.Need-returns Inv-loop μ-loop
-returns c = let p = c .before .before .before in line-none (p .before .before .args .values .now) (p .loop .at) _ _ (c .before .if1 .taken) ∙ sym (p .loop .inv .1)
+returns c = let p = c .before .before .before in line-none (p .before .before .args .values .now) (p .loop .at) (length (p .before .before .args .values .now) - p .loop .at) (p .before .before .args .line - p .loop .k) (c .before .if1 .taken) ∙ sym (p .loop .inv .1)
 
 find-requires : tie.Need-find-requires Inv-loop μ-loop
 find-requires c κs = search needs
@@ -54,7 +54,7 @@ loop-again c =
     let v = p .before .before .args .values .now in (
       c .past .ensures .0,
       p .loop .inv .1 ∙ line-on v (p .loop .at) _ (c .before .find .ensures .1) (p .before .before .args .line) (p .loop .k) (p .loop .inv .0) (omega arith)
-      ∙ ap (λ (x : ℕ). getD (linesOf (drop x v)) (p .before .before .args .line - (p .loop .k + 1)) []) (sym (c .past .ensures .1)),
+          ∙ ap (λ (x : ℕ). getD (linesOf (drop x v)) (p .before .before .args .line - (p .loop .k + 1)) []) (sym (c .past .ensures .1)),
     )
 
 find-requires-2 : tie.Need-find-requires-2 Inv-loop μ-loop

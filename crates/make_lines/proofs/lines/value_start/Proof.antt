@@ -41,7 +41,7 @@ loop-again c =
     let i = p .before .before .args .i in (
       c .past .ensures .0,
       ap (λ (x : ℕ). fromValue (i - (p .loop .k + 1)) (drop x s)) (c .past .ensures .1)
-      ∙ value-on s (p .loop .at) _ (c .before .find .ensures .1) i (p .loop .k) (p .loop .inv .0) (omega arith) ∙ p .loop .inv .1,
+          ∙ value-on s (p .loop .at) _ (c .before .find .ensures .1) i (p .loop .k) (p .loop .inv .0) (omega arith) ∙ p .loop .inv .1,
     )
 
 returns : tie.Need-returns Inv-loop μ-loop

@@ -1,3 +1,5 @@
+use mathlib.Core.Path.{sym}
+use Rattle.make_lines.proofs.Counting.{other-length}
 use borrow.Author.Needs.{needs}
 use Rattle.make_lines.proofs.slots.is_type.Statement.{statement}
 use Rattle.make_lines.proofs.slots.is_type.Tie as tie
@@ -6,7 +8,7 @@ use Rattle.make_lines.proofs.slots.is_type.Lts as lts
 use Rattle.field_bytes.proofs.texts.same_bytes.Reads as same-bytes-reads
 
 returns : tie.Need-returns
-returns c = ?
+returns c = sym (other-length _ _ (c .if1 .taken))
 
 same-bytes-requires : tie.Need-same-bytes-requires
 same-bytes-requires c κs = search needs

@@ -1,3 +1,5 @@
+use mathlib.Core.Path.{_≡_, ap, _∙_}
+use Rattle.make_lines.specs.Draft.{typeGiven}
 use borrow.Author.Needs.{needs}
 use Rattle.make_lines.proofs.slots.kind_in.Statement.{statement}
 use Rattle.make_lines.proofs.slots.kind_in.Tie as tie
@@ -13,7 +15,7 @@ type-given-requires : tie.Need-type-given-requires
 type-given-requires c κs = search needs
 
 returns : tie.Need-returns
-returns c = ?
+returns c = c .type-given .ensures ∙ ap typeGiven (c .before .value-at .ensures)
 
 pub kind-in-spec : {M : Type 1} → statement M
 kind-in-spec = tie.close (tie.spec value-at-requires type-given-requires returns)

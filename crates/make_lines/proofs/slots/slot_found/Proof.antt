@@ -1,3 +1,10 @@
+use mathlib.Core.Bool.{Bool}
+use Rattle.layout.specs.Findings.{demanded}
+use Rattle.layout.specs.declared.Finding.the-variants.{Sound}
+use Rattle.make_lines.specs.declared.slots.Slot.{Slot}
+use Rattle.make_lines.specs.Draft.{slotFound}
+use mathlib.Core.Path.{_≡_, refl, sym, ap, _∙_}
+use Prim.Native.Nat.{ℕ}
 use borrow.Author.Needs.{needs}
 use Rattle.make_lines.proofs.slots.slot_found.Statement.{statement}
 use Rattle.make_lines.proofs.slots.slot_found.Tie as tie
@@ -19,7 +26,10 @@ enum-known-slot-2 : tie.Need-enum-known-slot-2
 enum-known-slot-2 c = search needs
 
 returns : tie.Need-returns
-returns c = ?
+returns c =
+    let a = c .before .before .before .before .before .before .args in
+    c .demand .ensures ∙ ap (λ (b : Bool). demanded Sound b 8 (c .before .before .before .slot .given .0 .0)) (c .before .is-numeral .ensures)
+    ∙ ap (λ (s : Slot). slotFound s (a .value .now)) (sym (c .before .before .before .slot .given .1))
 
 returns-2 : tie.Need-returns-2
 returns-2 c = search needs
