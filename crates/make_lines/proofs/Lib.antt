@@ -1,3 +1,5 @@
 pub mod Pieces
 pub mod Numbers
 pub mod Counting
+pub mod Caps
+pub mod Made

@@ -23,6 +23,8 @@ use Rattle.operations.specs.declared.Making.the-variants.{Made, NotMade}
 use Rattle.make_lines.specs.Lines.{linesOf, valuesOf, passedOver, bearing, isNumeral}
 use Rattle.make_lines.specs.declared.slots.Slot.{Slot}
 use Rattle.make_lines.specs.declared.slots.Slot.the-variants.{Numeral, Words}
+use Rattle.make_lines.specs.declared.Taken.{Taken}
+use Rattle.make_lines.specs.declared.Taken.the-variants.{Added, Stopped}
 use Rattle.make_lines.specs.declared.Drafting.{Drafting}
 use Rattle.make_lines.specs.declared.Drafting.the-variants.{Drafted, NotDrafted}
 
@@ -142,6 +144,18 @@ notDrafted n line k = NotDrafted (refusal n 0 line k)
 abbrev pub onMade : Making → ℕ → Drafting → Drafting
 onMade Made i x = x
 onMade (NotMade x) i rest = notDrafted (x .number) i (x .field)
+
+-- what a line adds: nothing where it is passed over, else a record or a refusal
+abbrev pub takenBy : Making → Taken
+takenBy Made = Added 1
+takenBy (NotMade x) = Stopped (x .number) (x .field)
+
+unfoldable pub lineTaken : List ℕ → ℕ → Taken
+lineTaken l room = if passedOver l then Added 0 else takenBy (lineMaking l room)
+
+-- the buffer afterwards
+unfoldable pub takenBytes : List ℕ → List ℕ → List ℕ
+takenBytes l out = if passedOver l then out else lentRecord (lineMaking l (length out)) (lineRecord l) out
 
 -- the lines in turn, after i lines and n records, with this room left
 unfoldable pub draftFrom : ℕ → ℕ → ℕ → List (List ℕ) → Drafting

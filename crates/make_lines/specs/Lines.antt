@@ -62,9 +62,12 @@ unfoldable pub passedOver : List ℕ → Bool
 passedOver l = isRemark l || every isSemicolon l
 
 -- how many lines bear a record
+abbrev pub borne : List ℕ → ℕ
+borne l = if passedOver l then 0 else 1
+
 unfoldable pub bearing : List (List ℕ) → ℕ
 bearing [] = 0
-bearing (l ∷ ls) = (if passedOver l then 0 else 1) + bearing ls
+bearing (l ∷ ls) = borne l + bearing ls
 
 -- one digit or more
 unfoldable pub isNumeral : List ℕ → Bool
