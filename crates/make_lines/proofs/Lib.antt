@@ -3,3 +3,4 @@ pub mod Numbers
 pub mod Counting
 pub mod Caps
 pub mod Made
+pub mod Drafts
