@@ -11,15 +11,20 @@ use Rattle.choice.specs.Choice.{if_then_else_}
 use Rattle.limits.specs.Limits.{recordBytes, mostRecords}
 use Rattle.fields.specs.Bytes.{same, text}
 use Rattle.fields.specs.Numbers.{value}
+use Rattle.layout.specs.Findings.{orElse}
 use Rattle.layout.specs.declared.Finding.{Finding}
 use Rattle.layout.specs.declared.Finding.the-variants.{Sound, Fault}
 use Rattle.rules.specs.Refusals.{refusal}
 use Rattle.rules.specs.declared.Kind.{Kind}
 use Rattle.rules.specs.declared.Kind.the-variants.{R10, R20, R30, R31, R40, R49, R50, R88, R89, Other}
-use Rattle.operations.specs.Making.{Put, made10, made20, made30, made31, made40, made49, made50, recordFrom, notMade, onSound, makeOf}
+use Rattle.operations.specs.Making.{Put, made10, made20, made30, made31, made40, made49, made50, recordFrom, notMade, onSound, makeOf, lentRecord}
 use Rattle.operations.specs.declared.Making.{Making}
 use Rattle.operations.specs.declared.Making.the-variants.{Made, NotMade}
 use Rattle.make_lines.specs.Lines.{linesOf, valuesOf, passedOver, bearing, isNumeral}
+use Rattle.make_lines.specs.declared.slots.Slot.{Slot}
+use Rattle.make_lines.specs.declared.slots.Slot.the-variants.{Numeral, Words}
+use Rattle.make_lines.specs.declared.Taken.{Taken}
+use Rattle.make_lines.specs.declared.Taken.the-variants.{Added, Stopped}
 use Rattle.make_lines.specs.declared.Drafting.{Drafting}
 use Rattle.make_lines.specs.declared.Drafting.the-variants.{Drafted, NotDrafted}
 
@@ -29,24 +34,20 @@ typeGiven s =
     if same s (text "10") then R10 else (if same s (text "20") then R20 else (if same s (text "30") then R30 else (if same s (text "31") then R31 else
     (if same s (text "40") then R40 else (if same s (text "49") then R49 else (if same s (text "50") then R50 else Other))))))
 
--- a value of a line: a number or a text, and its field
-pub data Slot : Type 0 where
-  numeral : ℕ → Slot
-  words : ℕ → Slot
-
+-- the field of a value
 abbrev pub fieldOf : Slot → ℕ
-fieldOf (numeral k) = k
-fieldOf (words k) = k
+fieldOf (Numeral k) = k
+fieldOf (Words k) = k
 
 -- the values behind the record type, in their order
 abbrev pub slotsOf : Kind → List Slot
-slotsOf R10 = numeral 5 ∷ numeral 6 ∷ []
-slotsOf R20 = numeral 2 ∷ numeral 5 ∷ numeral 6 ∷ numeral 7 ∷ []
-slotsOf R30 = numeral 2 ∷ numeral 3 ∷ numeral 5 ∷ numeral 6 ∷ words 7 ∷ numeral 8 ∷ words 9 ∷ []
-slotsOf R31 = numeral 2 ∷ numeral 3 ∷ numeral 5 ∷ words 6 ∷ words 7 ∷ words 8 ∷ []
-slotsOf R40 = numeral 2 ∷ numeral 3 ∷ numeral 5 ∷ words 6 ∷ words 7 ∷ words 8 ∷ words 9 ∷ []
-slotsOf R49 = numeral 2 ∷ numeral 3 ∷ numeral 5 ∷ numeral 7 ∷ numeral 8 ∷ words 9 ∷ []
-slotsOf R50 = numeral 2 ∷ numeral 3 ∷ numeral 5 ∷ words 6 ∷ numeral 7 ∷ []
+slotsOf R10 = Numeral 5 ∷ Numeral 6 ∷ []
+slotsOf R20 = Numeral 2 ∷ Numeral 5 ∷ Numeral 6 ∷ Numeral 7 ∷ []
+slotsOf R30 = Numeral 2 ∷ Numeral 3 ∷ Numeral 5 ∷ Numeral 6 ∷ Words 7 ∷ Numeral 8 ∷ Words 9 ∷ []
+slotsOf R31 = Numeral 2 ∷ Numeral 3 ∷ Numeral 5 ∷ Words 6 ∷ Words 7 ∷ Words 8 ∷ []
+slotsOf R40 = Numeral 2 ∷ Numeral 3 ∷ Numeral 5 ∷ Words 6 ∷ Words 7 ∷ Words 8 ∷ Words 9 ∷ []
+slotsOf R49 = Numeral 2 ∷ Numeral 3 ∷ Numeral 5 ∷ Numeral 7 ∷ Numeral 8 ∷ Words 9 ∷ []
+slotsOf R50 = Numeral 2 ∷ Numeral 3 ∷ Numeral 5 ∷ Words 6 ∷ Numeral 7 ∷ []
 slotsOf R88 = []
 slotsOf R89 = []
 slotsOf Other = []
@@ -63,12 +64,15 @@ counted [] vs = if allEmpty vs then Sound else Fault 8 0
 counted (s ∷ ss) [] = Fault 8 (fieldOf s)
 counted (s ∷ ss) (v ∷ vs) = counted ss vs
 
+-- a number has to be one
+abbrev pub slotFound : Slot → List ℕ → Finding
+slotFound (Numeral k) v = if isNumeral v then Sound else Fault 8 k
+slotFound (Words k) v = Sound
+
 -- 8 at the first number that is none
 unfoldable pub numerals : List Slot → List (List ℕ) → Finding
 numerals [] vs = Sound
-numerals (s ∷ ss) [] = Sound
-numerals (numeral k ∷ ss) (v ∷ vs) = if isNumeral v then numerals ss vs else Fault 8 k
-numerals (words k ∷ ss) (v ∷ vs) = numerals ss vs
+numerals (s ∷ ss) vs = orElse (slotFound s (getD vs 0 [])) (numerals ss (drop 1 vs))
 
 -- the value in place i, as a text and as a number
 abbrev pub textAt : ℕ → List (List ℕ) → List ℕ
@@ -90,10 +94,30 @@ putsOf R88 vs = []
 putsOf R89 vs = []
 putsOf Other vs = []
 
--- of a line with this record type and these values: how many there are, then numbers, then the making
-unfoldable pub kindMaking : Kind → List (List ℕ) → ℕ → Making
-kindMaking Other vs room = notMade 7 4
-kindMaking k vs room = onSound (counted (slotsOf k) vs) (onSound (numerals (slotsOf k) vs) (makeOf k (putsOf k vs) room))
+-- how many values there are, then numbers
+abbrev pub slotsFound : Kind → List (List ℕ) → Finding
+slotsFound k vs = orElse (counted (slotsOf k) vs) (numerals (slotsOf k) vs)
+
+-- the record types that lines have: the end records are made by closing
+abbrev pub isGiven : Kind → Bool
+isGiven R10 = true
+isGiven R20 = true
+isGiven R30 = true
+isGiven R31 = true
+isGiven R40 = true
+isGiven R49 = true
+isGiven R50 = true
+isGiven R88 = false
+isGiven R89 = false
+isGiven Other = false
+
+-- what is found before a record is made: another record type is 7
+unfoldable pub faultIn : Kind → List (List ℕ) → Finding
+faultIn k vs = if isGiven k then slotsFound k vs else Fault 7 4
+
+-- of a line with this record type and these values
+abbrev pub kindMaking : Kind → List (List ℕ) → ℕ → Making
+kindMaking k vs room = onSound (faultIn k vs) (makeOf k (putsOf k vs) room)
 
 abbrev pub kindIn : List ℕ → Kind
 kindIn l = typeGiven (getD (valuesOf l) 0 [])
@@ -108,6 +132,11 @@ lineMaking l room = kindMaking (kindIn l) (givenIn l) room
 abbrev pub lineRecord : List ℕ → List ℕ
 lineRecord l = recordFrom (putsOf (kindIn l) (givenIn l))
 
+-- the answer for a line, and the whole buffer afterwards
+pub record LinePromise (l out : List ℕ) (answer : Making) (after : List ℕ) : Type 0 where
+  pub answers : answer ≡ lineMaking l (length out)
+  pub leaves : after ≡ lentRecord (lineMaking l (length out)) (lineRecord l) out
+
 -- a refusal of the values bears the line in the place of a record
 abbrev pub notDrafted : ℕ → ℕ → ℕ → Drafting
 notDrafted n line k = NotDrafted (refusal n 0 line k)
@@ -115,6 +144,18 @@ notDrafted n line k = NotDrafted (refusal n 0 line k)
 abbrev pub onMade : Making → ℕ → Drafting → Drafting
 onMade Made i x = x
 onMade (NotMade x) i rest = notDrafted (x .number) i (x .field)
+
+-- what a line adds: nothing where it is passed over, else a record or a refusal
+abbrev pub takenBy : Making → Taken
+takenBy Made = Added 1
+takenBy (NotMade x) = Stopped (x .number) (x .field)
+
+unfoldable pub lineTaken : List ℕ → ℕ → Taken
+lineTaken l room = if passedOver l then Added 0 else takenBy (lineMaking l room)
+
+-- the buffer afterwards
+unfoldable pub takenBytes : List ℕ → List ℕ → List ℕ
+takenBytes l out = if passedOver l then out else lentRecord (lineMaking l (length out)) (lineRecord l) out
 
 -- the lines in turn, after i lines and n records, with this room left
 unfoldable pub draftFrom : ℕ → ℕ → ℕ → List (List ℕ) → Drafting

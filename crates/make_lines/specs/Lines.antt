@@ -1,9 +1,10 @@
 -- Values as a spreadsheet exports them: a line for each record, its values parted by semicolons.
 -- Assumes nothing.
-use Prim.Native.Nat.{ℕ, _+_}
+use Prim.Native.Nat.{ℕ, zero, suc, _+_}
 use mathlib.Core.List.{List, [], _∷_}
 use mathlib.Core.Bool.{Bool, true, false, not, _&&_, _||_}
-use lib.Dec.{eqb}
+use lib.Dec.{eqb, ltb}
+use lib.ListN.{length}
 use Rattle.choice.specs.Choice.{if_then_else_}
 use Rattle.fields.specs.Bytes.{every, isDigit}
 
@@ -46,6 +47,11 @@ valuesOf l = between 59 l
 abbrev pub isSemicolon : ℕ → Bool
 isSemicolon b = eqb b 59
 
+-- what stands from the value in place i on, counted from 0
+unfoldable pub fromValue : ℕ → List ℕ → List ℕ
+fromValue zero l = l
+fromValue (suc i) l = fromValue i (behind 59 l)
+
 -- it begins with #
 abbrev pub isRemark : List ℕ → Bool
 isRemark [] = false
@@ -56,11 +62,25 @@ unfoldable pub passedOver : List ℕ → Bool
 passedOver l = isRemark l || every isSemicolon l
 
 -- how many lines bear a record
+abbrev pub borne : List ℕ → ℕ
+borne l = if passedOver l then 0 else 1
+
 unfoldable pub bearing : List (List ℕ) → ℕ
 bearing [] = 0
-bearing (l ∷ ls) = (if passedOver l then 0 else 1) + bearing ls
+bearing (l ∷ ls) = borne l + bearing ls
 
 -- one digit or more
 unfoldable pub isNumeral : List ℕ → Bool
 isNumeral [] = false
 isNumeral (x ∷ s) = every isDigit (x ∷ s)
+
+-- no field has more than 17 places: a larger number is as much too long as this one
+abbrev pub cap : ℕ
+cap = 100_000_000_000_000_000
+
+unfoldable pub capped : ℕ → ℕ
+capped n = if ltb n cap then n else cap
+
+-- where a piece that ends at e is followed: over the byte that parts them, if there is one
+unfoldable pub over : ℕ → List ℕ → ℕ
+over e s = if ltb e (length s) then e + 1 else e

@@ -1,0 +1,6 @@
+pub mod Pieces
+pub mod Numbers
+pub mod Counting
+pub mod Caps
+pub mod Made
+pub mod Drafts

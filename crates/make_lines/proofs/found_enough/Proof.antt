@@ -1,0 +1,16 @@
+use Rattle.make_lines.proofs.found_enough.Statement.{statement}
+use Rattle.make_lines.proofs.found_enough.Tie as tie
+use Rattle.make_lines.proofs.found_enough.Reads as reads
+use Rattle.make_lines.proofs.found_enough.Lts as lts
+
+returns : tie.Need-returns
+returns c = ?
+
+returns-2 : tie.Need-returns-2
+returns-2 c = ?
+
+returns-3 : tie.Need-returns-3
+returns-3 c = ?
+
+pub found-enough-spec : {M : Type 1} → statement M
+found-enough-spec = tie.close (tie.spec returns returns-2 returns-3)

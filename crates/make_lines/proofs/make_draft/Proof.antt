@@ -1,0 +1,50 @@
+use borrow.Author.Needs.{needs}
+use Rattle.make_lines.proofs.make_draft.Statement.{statement}
+use Rattle.make_lines.proofs.make_draft.Tie as tie
+use Rattle.make_lines.proofs.make_draft.Reads as reads
+use Rattle.make_lines.proofs.make_draft.Lts as lts
+use Rattle.make_lines.proofs.count_bearing.Reads as count-bearing-reads
+use Rattle.make_lines.proofs.found_enough.Reads as found-enough-reads
+use Rattle.make_lines.proofs.take_lines.Reads as take-lines-reads
+use Rattle.rules.proofs.Refusal.at.Reads as at-reads
+
+count-bearing-requires : tie.Need-count-bearing-requires
+count-bearing-requires c κs = search needs
+
+found-enough-requires : tie.Need-found-enough-requires
+found-enough-requires c κs = search needs
+
+enum-known-found : tie.Need-enum-known-found
+enum-known-found c = search needs
+
+at-requires : tie.Need-at-requires
+at-requires c κs = search needs
+
+enum-told : tie.Need-enum-told
+enum-told c = search needs
+
+take-lines-requires : tie.Need-take-lines-requires
+take-lines-requires c κs = search needs
+
+returns : tie.Need-returns
+returns c = ?
+
+same-length : tie.Need-same-length
+same-length c = search needs
+
+returns-2 : tie.Need-returns-2
+returns-2 c = ?
+
+pub make-draft-spec : {M : Type 1} → statement M
+make-draft-spec =
+    tie.close
+    (tie.spec
+    count-bearing-requires
+    found-enough-requires
+    enum-known-found
+    at-requires
+    enum-told
+    take-lines-requires
+    returns
+    same-length
+    returns-2)
