@@ -20,8 +20,7 @@ use tool_positions::Positions;
 const SHOWN: usize = 160;
 
 pub fn tell_made(records: u64) {
-    say(b"made");
-    program_lines::print_number(records);
+    program_lines::print_made(records);
     program_lines::end_line();
 }
 
