@@ -1,11 +1,8 @@
 //! Links the archive of the proved operations to the programs that ask it, and
-//! tells them which operations of include/pay.h it has. The archive is at
-//! PAY_C, or where reference/archive puts it. What is no archive, or one of
-//! another processor, is passed over: everything else is built without it.
-
-#[allow(dead_code)]
-#[path = "src/header.rs"]
-mod header;
+//! tells them which of the operations declared in src/archive.rs it has. The
+//! archive is at PAY_C, or where reference/archive puts it. What is no archive,
+//! or one of another processor, is passed over: everything else is built
+//! without it.
 
 use std::io::ErrorKind;
 use std::path::{Path, PathBuf};
@@ -71,19 +68,26 @@ fn usual(root: &Path) -> PathBuf {
     root.join("target/staticlib").join(told("CARGO_CFG_TARGET_ARCH")).join("libpay_c.a")
 }
 
+/// The names of the declared operations.
+fn declarations(text: &str) -> impl Iterator<Item = String> {
+    let names =
+        text.lines().filter_map(|line| line.trim().strip_prefix("fn pay_")?.split_once('('));
+    names.map(|(name, _)| format!("pay_{name}"))
+}
+
 fn main() {
     let here = PathBuf::from(told("CARGO_MANIFEST_DIR"));
     let root = here.parent().expect("the project's root");
-    let header = root.join("include/pay.h");
-    let text = std::fs::read_to_string(&header).expect("include/pay.h");
-    let operations: Vec<String> = header::prototypes(&text).into_iter().map(|p| p.name).collect();
+    let declared = here.join("src/archive.rs");
+    let text = std::fs::read_to_string(&declared).expect("src/archive.rs");
+    let operations: Vec<String> = declarations(&text).collect();
     println!("cargo::rustc-check-cfg=cfg({})", operations.join(", "));
 
     let given = std::env::var_os("PAY_C").filter(|path| !path.is_empty());
     let archive = given.map_or_else(|| usual(root), PathBuf::from);
     println!("cargo::rerun-if-env-changed=PAY_C");
     println!("cargo::rerun-if-changed={}", archive.display());
-    println!("cargo::rerun-if-changed={}", header.display());
+    println!("cargo::rerun-if-changed={}", declared.display());
     let offered = offered(&archive);
     println!("cargo::rustc-env=ARCHIVE={}", archive.display());
     println!(

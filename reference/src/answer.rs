@@ -1,7 +1,8 @@
 //! An answer as the operations for C give it: sixteen numbers, each at its
 //! place, and 0 wherever a place does not apply.
 
-use crate::{Accepted, Parted, Parting, Refused, Verdict, Writing, Written};
+use crate::make::{BadLine, Drafting, Making};
+use crate::{Accepted, Parted, Parting, RECORD, Refused, Verdict, Writing, Written};
 
 /// How many numbers an answer has.
 pub const PLACES: usize = 16;
@@ -53,10 +54,11 @@ pub enum What {
     Refused = 0,
     Accepted = 1,
     Parted = 2,
+    Made = 3,
 }
 
 impl What {
-    pub const ALL: [Self; 3] = [Self::Refused, Self::Accepted, Self::Parted];
+    pub const ALL: [Self; 4] = [Self::Refused, Self::Accepted, Self::Parted, Self::Made];
 }
 
 fn answer<const N: usize>(what: What, numbers: [(Place, u64); N]) -> Answer {
@@ -108,4 +110,31 @@ pub fn of_parting(parting: Parting) -> Answer {
         let numbers = [(Place::Written, first as u64), (Place::WrittenSecond, second as u64)];
         answer(What::Parted, numbers)
     })
+}
+
+/// The answer of making a record.
+pub fn of_making(making: Making) -> Answer {
+    making.map_or_else(refused, |()| answer(What::Made, [(Place::Written, RECORD as u64)]))
+}
+
+/// What an answer of making a record says, if a making can give it.
+pub fn making(answer: &Answer) -> Option<Making> {
+    let [number, field] = [Place::Number, Place::Field].map(|place| place.of(answer) as u8);
+    let refused = Refused { number, operand: 0, record: 0, field };
+    [Ok(()), Err(refused)].into_iter().find(|&making| of_making(making) == *answer)
+}
+
+/// Making a draft is no operation for C. It has an answer of the same form, with
+/// how many records were made, or the line in the place of the record.
+pub fn of_drafting(drafting: Drafting) -> Answer {
+    match drafting {
+        Ok(records) => {
+            let numbers =
+                [(Place::Records, records as u64), (Place::Written, (records * RECORD) as u64)];
+            answer(What::Made, numbers)
+        }
+        Err(BadLine { number, line, field }) => {
+            refused(Refused { number, operand: 0, record: line as u32, field })
+        }
+    }
 }

@@ -3,9 +3,11 @@
 
 use crate::answer::{self, Answer};
 use crate::damage::damage;
+use crate::make::{Values, make, make_draft};
 use crate::random::Random;
 use crate::records::{self, closed, count, file_of, long_file};
 use crate::sample::{DAY, Plan, days, sound_draft};
+use crate::till;
 use crate::{Day, RECORD, Variant};
 
 #[derive(Clone, Copy, Debug, PartialEq, Eq)]
@@ -14,10 +16,32 @@ pub enum Operation {
     Close,
     Join,
     Part,
+    Make10,
+    Make20,
+    Make30,
+    Make31,
+    Make40,
+    Make49,
+    Make50,
+    /// No operation of its own: the records of lines, each made by one of the seven.
+    MakeDraft,
 }
 
 impl Operation {
-    pub const ALL: [Self; 4] = [Self::Check, Self::Close, Self::Join, Self::Part];
+    pub const ALL: [Self; 12] = [
+        Self::Check,
+        Self::Close,
+        Self::Join,
+        Self::Part,
+        Self::Make10,
+        Self::Make20,
+        Self::Make30,
+        Self::Make31,
+        Self::Make40,
+        Self::Make49,
+        Self::Make50,
+        Self::MakeDraft,
+    ];
 
     pub fn name(self) -> &'static str {
         match self {
@@ -25,7 +49,33 @@ impl Operation {
             Self::Close => "close",
             Self::Join => "join",
             Self::Part => "part",
+            Self::Make10 => "make10",
+            Self::Make20 => "make20",
+            Self::Make30 => "make30",
+            Self::Make31 => "make31",
+            Self::Make40 => "make40",
+            Self::Make49 => "make49",
+            Self::Make50 => "make50",
+            Self::MakeDraft => "make",
         }
+    }
+
+    /// Of which record type the operation makes a record.
+    fn makes(self) -> Option<&'static [u8; 2]> {
+        match self {
+            Self::Make10 => Some(b"10"),
+            Self::Make20 => Some(b"20"),
+            Self::Make30 => Some(b"30"),
+            Self::Make31 => Some(b"31"),
+            Self::Make40 => Some(b"40"),
+            Self::Make49 => Some(b"49"),
+            Self::Make50 => Some(b"50"),
+            _ => None,
+        }
+    }
+
+    fn is_making(self) -> bool {
+        self.makes().is_some() || self == Self::MakeDraft
     }
 }
 
@@ -34,20 +84,54 @@ impl Operation {
 pub struct Case {
     pub operation: Operation,
     pub day: Day,
+    /// Of making a draft: the lines.
     pub first: Vec<u8>,
+    /// Of making a draft: what has to come out, and to be closed on that day; empty if nothing
+    /// is foretold.
     pub second: Vec<u8>,
     pub k: u64,
     /// The lengths of the lent outputs.
     pub rooms: [usize; 2],
+    /// What a record is made of.
+    pub numbers: Vec<u64>,
+    pub texts: Vec<Vec<u8>>,
 }
 
 impl Case {
-    fn new(operation: Operation, day: Day, first: Vec<u8>) -> Self {
-        Self { operation, day, first, second: Vec::new(), k: 0, rooms: [0, 0] }
+    pub fn new(operation: Operation, day: Day, first: Vec<u8>) -> Self {
+        let (second, numbers, texts) = (Vec::new(), Vec::new(), Vec::new());
+        Self { operation, day, first, second, k: 0, rooms: [0, 0], numbers, texts }
+    }
+
+    /// What a record is to be made of, where the case asks for one.
+    pub fn values(&self) -> Option<Values<'_>> {
+        let texts: Vec<&[u8]> = self.texts.iter().map(Vec::as_slice).collect();
+        Some(match (self.operation, &self.numbers[..], &texts[..]) {
+            (Operation::Make10, &[sender, number], []) => Values::FileStart { sender, number },
+            (Operation::Make20, &[service, agreement, assignment, account], []) => {
+                Values::AssignmentStart { service, agreement, assignment, account }
+            }
+            (Operation::Make30, &[service, code, number, date, amount], &[party, kid]) => {
+                Values::Amount1 { service, code, number, date, party, amount, kid }
+            }
+            (Operation::Make31, &[service, code, number], &[six, seven, eight]) => {
+                Values::Amount2 { service, code, number, texts: [six, seven, eight] }
+            }
+            (Operation::Make40, &[service, code, number], &[name, postal, filler, area]) => {
+                Values::Address { service, code, number, name, postal, filler, area }
+            }
+            (Operation::Make49, &[service, code, number, line, column], &[text]) => {
+                Values::Message { service, code, number, line, column, text }
+            }
+            (Operation::Make50, &[service, code, number, amount], &[kid]) => {
+                Values::SubSpec { service, code, number, kid, amount }
+            }
+            _ => return None,
+        })
     }
 }
 
-/// The answer of a variant, the outputs being lent to it.
+/// The answer of a variant, the outputs being lent to it. There is one way of making alone.
 pub fn answer(case: &Case, variant: Variant, out1: &mut [u8], out2: &mut [u8]) -> Answer {
     let Case { operation, day, first, second, k, .. } = case;
     match operation {
@@ -55,14 +139,31 @@ pub fn answer(case: &Case, variant: Variant, out1: &mut [u8], out2: &mut [u8]) -
         Operation::Close => answer::of_writing((variant.close)(*day, first, out1)),
         Operation::Join => answer::of_writing((variant.join)(*day, first, second, out1)),
         Operation::Part => answer::of_parting((variant.part)(*day, first, *k, out1, out2)),
+        Operation::MakeDraft => answer::of_drafting(make_draft(first, out1)),
+        _ => answer::of_making(make(case.values().expect("values of its record"), out1)),
     }
 }
 
-/// The case of this index. Large ones come up once in some thousands.
+/// The case of this index. A fifth of them are makings, where there are any. Large ones come up
+/// once in some thousands.
 pub fn case(seed: u64, index: u64, operations: &[Operation]) -> Case {
     let mut random = Random::of_case(seed, index);
-    let operation = random.pick(operations);
-    let mut case = match random.below(20_000) {
+    let (makings, others): (Vec<Operation>, Vec<Operation>) =
+        operations.iter().partition(|operation| operation.is_making());
+    let is_making = others.is_empty() || !makings.is_empty() && random.percent(20);
+    // A record 30 has the most rules.
+    let operation = match operations.contains(&Operation::Make30) {
+        true if is_making && random.percent(30) => Operation::Make30,
+        _ => random.pick(if is_making { &makings } else { &others }),
+    };
+    let size = random.below(20_000);
+    if let Some(kind) = operation.makes() {
+        return making(&mut random, operation, kind);
+    }
+    if operation == Operation::MakeDraft {
+        return drafting(&mut random, size < 20);
+    }
+    let mut case = match size {
         0..=1 => huge(&mut random, operation),
         2..=60 => many_assignments(&mut random, operation),
         _ => small(&mut random, operation),
@@ -71,6 +172,38 @@ pub fn case(seed: u64, index: u64, operations: &[Operation]) -> Case {
         case.day = no_day(&mut random);
     }
     case
+}
+
+/// A record to be made.
+fn making(random: &mut Random, operation: Operation, kind: &[u8; 2]) -> Case {
+    let (numbers, texts) = till::values(random, kind);
+    let more = RECORD + random.index(400);
+    let room = random.pick(&[81, 81, 81, 81, 81, 81, 82, more, more, 80, 0, 40]);
+    Case { numbers, texts, rooms: [room, 0], ..Case::new(operation, DAY, Vec::new()) }
+}
+
+/// Lines of values: a sound draft, which has to come out and to be closed; or damaged ones.
+fn drafting(random: &mut Random, is_long: bool) -> Case {
+    let operation = Operation::MakeDraft;
+    if is_long {
+        // As many lines as there may be, and one too many.
+        let lines = b"10;12345;1\n;;\n".repeat(random.pick(&[199_998, 199_998, 199_999]));
+        let rooms = [random.pick(&[0, 162, 199_998 * RECORD]), 0];
+        return Case { rooms, ..Case::new(operation, DAY, lines) };
+    }
+    let day = process_day(random);
+    let mut draft = sound_draft(plan(random, day));
+    draft.iter_mut().filter(|byte| **byte == b';').for_each(|byte| *byte = b',');
+    let mut lines = till::lines(random, &draft);
+    if random.percent(50) {
+        let rooms = [draft.len() + random.pick(&[0, 0, 1, 81, 200]), 0];
+        return Case { second: draft, rooms, ..Case::new(operation, day, lines) };
+    }
+    for _ in 0..random.pick(&[0, 1, 1, 1, 2]) {
+        till::damage(random, &mut lines);
+    }
+    let rooms = [room(random, draft.len()), 0];
+    Case { rooms, ..Case::new(operation, day, lines) }
 }
 
 fn process_day(random: &mut Random) -> Day {
@@ -288,6 +421,7 @@ fn small(random: &mut Random, operation: Operation) -> Case {
             let rooms = parts(&file, k).map(|needed| room(random, needed));
             Case { k, rooms, ..Case::new(operation, day, file) }
         }
+        _ => unreachable!("a making"),
     }
 }
 
@@ -344,6 +478,7 @@ fn many_assignments(random: &mut Random, operation: Operation) -> Case {
             case.k = boundary(random, &case.first);
             case.rooms = parts(&case.first, case.k);
         }
+        _ => unreachable!("a making"),
     }
     case
 }
@@ -383,5 +518,6 @@ fn huge(random: &mut Random, operation: Operation) -> Case {
             let rooms = parts(&file, k);
             Case { k, rooms, ..Case::new(operation, day, file) }
         }
+        _ => unreachable!("a making"),
     }
 }

@@ -1,7 +1,7 @@
 //! Files sent to the clearing house: check a file, close a draft, join two
-//! files, part one file.
+//! files, part one file, and make the records of a draft from values.
 //!
-//! The functions at the crate root are the plain ones. [`fast`] has the same
+//! The functions at the crate root are the plain ones. [`fast`] has the first
 //! four operations with the same answers; it accepts well-formed transactions
 //! a word at a time and hands everything else to the plain rules.
 #![forbid(unsafe_code)]
@@ -14,17 +14,20 @@ mod date;
 mod field;
 mod figures;
 pub mod header;
+pub mod make;
 mod operations;
 pub mod program;
 pub mod random;
 pub mod records;
 pub mod sample;
+pub mod till;
 pub mod vectors;
 mod word;
 mod writer;
 
 pub mod fast;
 
+pub use make::{make, make_draft};
 pub use operations::{check, close, join, part};
 
 /// Bytes of one record, its line feed included.
@@ -96,7 +99,7 @@ pub struct Parted {
     pub second: usize,
 }
 
-/// The four operations of one variant, to choose between them at run time.
+/// The operations on files of one variant, to choose between them at run time.
 #[allow(clippy::type_complexity)]
 #[derive(Clone, Copy)]
 pub struct Variant {

@@ -3,11 +3,13 @@
 //!
 //! `check DDMMYY` and the file; `close DDMMYY ROOM 000000 000000` and the
 //! draft; `join  DDMMYY LENGTH ROOM 000000`, the first file (of that length)
-//! and the second; `part  DDMMYY K ROOM1 ROOM2` and the file. Outputs are
-//! filled with `#` before the call.
+//! and the second; `part  DDMMYY K ROOM1 ROOM2` and the file; `make  000000
+//! ROOM`, blanks up to the same length, and lines of values. Outputs are filled
+//! with `#` before the call.
 
 use crate::cases::{Case, Operation};
-use crate::{Accepted, Day, Refused, check, close, join, part};
+use crate::make::BadLine;
+use crate::{Accepted, Day, Refused, check, close, join, make_draft, part};
 
 /// The most bytes of an output.
 const MOST_ROOM: usize = 160_000;
@@ -25,6 +27,8 @@ pub fn written(case: &Case) -> Vec<u8> {
         Operation::Close => format!("close {date} {one:06} 000000 000000\n"),
         Operation::Join => format!("join  {date} {:06} {one:06} 000000\n", case.first.len()),
         Operation::Part => format!("part  {date} {:06} {one:06} {two:06}\n", case.k),
+        Operation::MakeDraft => format!("make  000000 {one:06}{:14}\n", ""),
+        _ => panic!("there are no vectors of {}", case.operation.name()),
     };
     let vector = [line.as_bytes(), &case.first, &case.second].concat();
     assert!(case.rooms.into_iter().all(|room| room <= MOST_ROOM) && vector.len() <= MOST_BYTES);
@@ -46,8 +50,7 @@ pub fn read(vector: &[u8]) -> Option<Case> {
     let (line, rest) = (&vector[..end], &vector[end + 1..]);
     let numbers = || Some((number(line, 13, 19)?, number(line, 20, 26)?, number(line, 27, 33)?));
     let whole = |operation, k, rooms| {
-        let (first, second) = (rest.to_vec(), Vec::new());
-        Some(Case { operation, day: day(line)?, first, second, k, rooms })
+        Some(Case { k, rooms, ..Case::new(operation, day(line)?, rest.to_vec()) })
     };
     match line.get(..6)? {
         b"check " => whole(Operation::Check, 0, [0, 0]),
@@ -65,6 +68,7 @@ pub fn read(vector: &[u8]) -> Option<Case> {
             let (k, one, two) = numbers()?;
             whole(Operation::Part, k, [one as usize, two as usize])
         }
+        b"make  " => whole(Operation::MakeDraft, 0, [number(line, 13, 19)? as usize, 0]),
         _ => None,
     }
 }
@@ -87,7 +91,7 @@ fn refused(refused: Refused) -> String {
 
 /// The line to be printed about a case, without the vector's name.
 pub fn line(case: &Case) -> String {
-    let Case { operation, day, first, second, k, rooms } = case;
+    let Case { operation, day, first, second, k, rooms, .. } = case;
     let [mut one, mut two] = rooms.map(|room| vec![FILLER; room]);
     match operation {
         Operation::Check => check(*day, first).map_or_else(refused, accepted),
@@ -106,6 +110,14 @@ pub fn line(case: &Case) -> String {
             let answer = answer.map_or_else(refused, |_| "parted".into());
             format!("{answer} {} {}", hash(&one), hash(&two))
         }
+        Operation::MakeDraft => {
+            let answer = match make_draft(first, &mut one) {
+                Ok(records) => format!("made {records}"),
+                Err(BadLine { number, line, field }) => format!("refused {number} {line} {field}"),
+            };
+            format!("{answer} {}", hash(&one))
+        }
+        _ => panic!("there are no vectors of {}", operation.name()),
     }
 }
 
@@ -115,7 +127,7 @@ mod tests {
     use crate::records::{whole, with};
 
     fn case(operation: Operation, first: Vec<u8>, second: Vec<u8>, rooms: [usize; 2]) -> Case {
-        Case { operation, day: (2025, 10, 1), first, second, k: 1, rooms }
+        Case { second, k: 1, rooms, ..Case::new(operation, (2025, 10, 1), first) }
     }
 
     #[test]
@@ -131,11 +143,15 @@ mod tests {
 
     #[test]
     fn written_and_read_again() {
-        for operation in Operation::ALL {
+        use Operation::{Check, Close, Join, MakeDraft, Part};
+        for operation in [Check, Close, Join, Part, MakeDraft] {
             let case = case(operation, whole(), vec![], [486, 7]);
             let again = read(&written(&case)).unwrap();
             assert_eq!(line(&again), line(&case));
         }
+        let lines = b"10;12345;0110001\n".to_vec();
+        let vector = written(&case(MakeDraft, lines.clone(), vec![], [81, 0]));
+        assert_eq!(vector, [b"make  000000 000081              \n", &lines[..]].concat());
         assert_eq!(written(&case(Operation::Join, whole(), whole(), [5, 0]))[33], b'\n');
     }
 

@@ -147,7 +147,7 @@ fn run_joined_to_its_twin() {
 #[rustfmt::skip]
 fn run_answers() {
     let ask = |operation, first: &[u8], second: &[u8], rooms: [usize; 2]| {
-        let case = Case { operation, day: DAY, first: first.into(), second: second.into(), k: 1, rooms };
+        let case = Case { second: second.into(), k: 1, rooms, ..Case::new(operation, DAY, first.into()) };
         let [plain, fast] = [Variant::PLAIN, Variant::FAST].map(|variant| answer(&case, variant, &mut vec![0; rooms[0]], &mut vec![0; rooms[1]]));
         assert_eq!(plain, fast);
         plain

@@ -46,6 +46,8 @@ fn number_type(c: &str) -> &'static str {
 fn parameter(c: &str) -> String {
     let (whole, constant) = (c.strip_prefix("const ").unwrap_or(c), c.starts_with("const "));
     let (c_type, name) = whole.split_once(' ').expect("a type and a name");
+    // A name that Rust keeps for itself is marked.
+    let name = if name == "type" { "r#type" } else { name };
     let each = number_type(c_type);
     match (name.strip_prefix('*'), name.split_once('[')) {
         (Some(name), None) if constant => format!("{name}: *const {each}"),

@@ -41,7 +41,8 @@ use Rattle.run_figures.specs.Blocks.{blocks, figuresFrom}
 use Rattle.run_figures.proofs.Blocks.{blocks-on, blocks-open}
 use Rattle.run_loop.proofs.Loop.{small-start}
 use Rattle.rules.proofs.Records.{rest-start, rest-end}
-use Rattle.write_file.proofs.Wrote.{Wrote, at-first, behind, told, wrote-length, room-behind, end-length}
+use Rattle.field_texts.proofs.Wrote.{Wrote, at-first, behind, told, wrote-length, room-behind}
+use Rattle.write_file.proofs.Ends.{end-length}
 use Rattle.close_write.specs.Block.{recordsFrom, between, state, Ahead, behindEnd, Block}
 use Rattle.run_loop.proofs.Keys.{twenty-code}
 use Rattle.close_write.proofs.Walk.{next-of, plain, holds, step-on, step-turned, Ending, ending}

@@ -42,7 +42,7 @@ fn put_assignment(
     let service = service_in(rules::record_at(draft, from));
     let totals = own.totals;
     let size = end - start;
-    write_file::copy_to(out, &draft[start..end]);
+    field_texts::copy_to(out, &draft[start..end]);
     write_file::put_end(&mut out[size..], service, 88, totals, own.last);
     size + RECORD_BYTES
 }
@@ -53,7 +53,7 @@ pub fn write(draft: &[u8], totals: Totals, figures: &[u64], out: &mut [u8])
     ensures { λ _. ⌜ now (out .exit) ≡ closedFile (now (draft .entry)) ++ drop (length (closedFile (now (draft .entry)))) (now (out .entry)) ⌝ }
 {
     let count = draft.len() / RECORD_BYTES;
-    write_file::copy_to(out, &draft[0..RECORD_BYTES]);
+    field_texts::copy_to(out, &draft[0..RECORD_BYTES]);
     let mut at = RECORD_BYTES;
     let mut k: usize = 1;
     let mut j: usize = 1;

@@ -45,7 +45,7 @@ use Rattle.rules.specs.declared.Refusal.{Refusal}
 use Rattle.rules.specs.declared.Verdict.{Verdict}
 use Rattle.rules.specs.declared.Verdict.the-variants.{Accepted, Refused}
 use Rattle.rules.proofs.Codes.{twenty}
-use Rattle.write_file.proofs.Wrote.{end-length}
+use Rattle.write_file.proofs.Ends.{end-length}
 use Rattle.join_pairs.specs.Pairs.{KeyReadable, KeysReadable, Judged}
 use Rattle.join_files.specs.Days.{OnDay}
 

@@ -53,7 +53,7 @@ module _ (w n : ℕ) (s : List ℕ) where
   is-written l d e = sym (digit-field w .writes-back s n l (number-yes s d ∙ ap Number (eqb-true (value s) n e)))
 
 -- a code of two digits
-code-reads : (n : ℕ) (s : List ℕ) → s ≡ written 2 n → n < 100 → codeOf s ≡ n
+pub code-reads : (n : ℕ) (s : List ℕ) → s ≡ written 2 n → n < 100 → codeOf s ≡ n
 unfolding codeOf
 code-reads n s e h = let v = reads 2 n s e h in rw (v .0) (eqb-true (value s) n (v .1))
 
@@ -100,11 +100,11 @@ endFields service type t last =
     written 6 (ddmmyy (t .first)) ∷ written 6 (ddmmyy last) ∷ written 27 0 ∷ (10 ∷ []) ∷ []
 
 -- pieces cut one behind the other are parts by their positions
-cutsFrom : ℕ → List ℕ → List ℕ → List (List ℕ)
+unfoldable pub cutsFrom : ℕ → List ℕ → List ℕ → List (List ℕ)
 cutsFrom i [] r = []
 cutsFrom i (n ∷ ns) r = take n (drop i r) ∷ cutsFrom (i + n) ns r
 
-from-place : (i : ℕ) (ns r : List ℕ) → cuts ns (drop i r) ≡ cutsFrom i ns r
+pub from-place : (i : ℕ) (ns r : List ℕ) → cuts ns (drop i r) ≡ cutsFrom i ns r
 unfolding cuts cutsFrom
 from-place i [] r = refl
 from-place i (n ∷ ns) r = rw (drop-drop n i r) (ap (λ (x : List (List ℕ)). take n (drop i r) ∷ x) (from-place (i + n) ns r))

@@ -1,7 +1,7 @@
 -- A refusal names the first fault, and a first fault is refused: in the table, then in the run, then at its end.
 -- Assumes nothing.
 use Prim.Native.Nat.{ℕ, suc, _+_}
-use mathlib.Core.Path.{_≡_, refl, sym, ap, subst, _∙_}
+use mathlib.Core.Path.{_≡_, refl, sym, ap, ap₂, subst, _∙_}
 use mathlib.Core.List.{List, [], _∷_, _++_, append-nil, append-assoc}
 use mathlib.Core.Bool.{Bool, true, false}
 use native.Mathlib.Nat.{add-zero}
@@ -29,9 +29,9 @@ use Rattle.rules.specs.declared.Refusal.{Refusal}
 use Rattle.rules.specs.declared.State.{State}
 use Rattle.rules.specs.declared.Verdict.{Verdict}
 use Rattle.rules.specs.declared.Verdict.the-variants.{Accepted, Refused}
-use Rattle.laws.specs.Meets.{gains, turns, allKeys, Meets, FirstFault}
+use Rattle.laws.specs.Meets.{gains, turns, allKeys, Meets, Broken, FirstFault}
 
-sound-not-fault : (n k : ℕ) → Sound ≡ Fault n k → ⊥
+pub sound-not-fault : (n k : ℕ) → Sound ≡ Fault n k → ⊥
 sound-not-fault n k e = let z : _≡_ {A = ℕ} 0 1 = cc in omega arith
 
 accepted-not-refused : (t : Totals) (x : Refusal) → Accepted t ≡ Refused x → ⊥
@@ -43,17 +43,7 @@ cut : (f : Totals) (ks r : List ℕ) (ws : List Row) (w : Row) (vs : List Row) �
     → firstFault f ks r (ws ++ (w ∷ vs)) ≡ orElse (firstFault f ks r ws) (Fault (rowNumber w) (rowField w))
 cut f ks r ws w vs h = pieces f ks r ws (w ∷ vs) ∙ ap (orElse (firstFault f ks r ws)) (stop f ks r w vs h)
 
-pub record Broken (f : Totals) (ks r : List ℕ) (ws : List Row) (n k : ℕ) : Type 0 where
-  pub held : List Row
-  pub row : Row
-  pub unseen : List Row
-  pub table : ws ≡ held ++ (row ∷ unseen)
-  pub hold : AllHold f ks r held
-  pub fails : passes f ks r row ≡ false
-  pub number : rowNumber row ≡ n
-  pub field : rowField row ≡ k
-
-fault-inj : (n k n′ k′ : ℕ) → Fault n k ≡ Fault n′ k′ → (n ≡ n′) × (k ≡ k′)
+pub fault-inj : (n k n′ k′ : ℕ) → Fault n k ≡ Fault n′ k′ → (n ≡ n′) × (k ≡ k′)
 fault-inj n k n′ k′ e = (cc, cc)
 
 pub broken : (f : Totals) (ks r : List ℕ) (ws : List Row) (n k : ℕ) → firstFault f ks r ws ≡ Fault n k → Broken f ks r ws n k
@@ -68,6 +58,13 @@ broken f ks r (w ∷ ws) n k e = go (passes f ks r w) refl (λ x. broken f ks r 
     go false q ih =
         let v = fault-inj (rowNumber w) (rowField w) n k (sym (stop f ks r w ws q) ∙ e) in
         record { held = []; row = w; unseen = ws; table = refl; hold = tt; fails = q; number = v .0; field = v .1 }
+
+pub broken-so : (f : Totals) (ks r : List ℕ) (ws : List Row) (n k : ℕ) → Broken f ks r ws n k → firstFault f ks r ws ≡ Fault n k
+broken-so f ks r ws n k v =
+    ap (firstFault f ks r) (v .table)
+    ∙ cut f ks r (v .held) (v .row) (v .unseen) (v .fails)
+    ∙ ap (λ (x : Finding). orElse x (Fault (rowNumber (v .row)) (rowField (v .row)))) (sound-of-all f ks r (v .held) (v .hold))
+    ∙ ap₂ Fault (v .number) (v .field)
 
 -- ---- in the run
 -- a run that refuses stops at a record, or at the end

@@ -24,5 +24,6 @@ pub mod Cuts
 pub mod Parting
 pub mod Saved
 pub mod OneAnswer
+pub mod Making
 pub mod Slices
 pub mod Tells

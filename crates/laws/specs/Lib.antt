@@ -2,6 +2,7 @@ pub mod Meets
 pub mod Plain
 pub mod Fits
 pub mod Stripped
+pub mod Makable
 pub mod Closable
 pub mod View
 pub mod Joinable

@@ -43,6 +43,17 @@ pub record Lawful (day : ProcessDay) (b : List ℕ) : Type 0 where
   pub meets : Meets File window none [] (start .assignment) (recordsOf b)
   pub ends : Ends File (turns (start .assignment) (recordsOf b))
 
+-- the first row of a table that does not hold, with its number and its field: the rows before it hold
+pub record Broken (f : Totals) (ks r : List ℕ) (ws : List Row) (n k : ℕ) : Type 0 where
+  pub held : List Row
+  pub row : Row
+  pub unseen : List Row
+  pub table : ws ≡ held ++ (row ∷ unseen)
+  pub hold : AllHold f ks r held
+  pub fails : passes f ks r row ≡ false
+  pub number : rowNumber row ≡ n
+  pub field : rowField row ≡ k
+
 -- the first fault after a state: i records before it meet every rule, the rows before it hold, and its row does not
 pub record FirstFault (m : Mode) (w : Window) (f : Totals) (ks : List ℕ) (a : Assignment) (rs : List (List ℕ)) (i n k : ℕ) : Type 0 where
   pub before : List (List ℕ)

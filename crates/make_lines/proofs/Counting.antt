@@ -17,7 +17,7 @@ use Rattle.field_bytes.proofs.Every.{same-is}
 use Rattle.layout.specs.Findings.{orElse, demanded}
 use Rattle.layout.specs.declared.Finding.{Finding}
 use Rattle.layout.specs.declared.Finding.the-variants.{Sound, Fault}
-use Rattle.write_file.proofs.Wrote.{tail-part}
+use Rattle.field_texts.proofs.Wrote.{tail-part}
 use Rattle.make_lines.specs.Lines.{before, behind, withFirst, between, valuesOf, isSemicolon, over}
 use Rattle.make_lines.specs.Draft.{fieldOf, allEmpty, counted, slotFound, numerals, givenIn}
 use Rattle.make_lines.specs.declared.slots.Slot.{Slot}

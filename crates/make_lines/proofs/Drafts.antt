@@ -17,7 +17,7 @@ use Rattle.rules.specs.declared.Refusal.{Refusal}
 use Rattle.operations.specs.Making.{lentRecord}
 use Rattle.operations.specs.declared.Making.{Making}
 use Rattle.operations.specs.declared.Making.the-variants.{Made, NotMade}
-use Rattle.write_file.proofs.Wrote.{Wrote, wrote-none, wrote-length, tail-part, behind}
+use Rattle.field_texts.proofs.Wrote.{Wrote, wrote-none, wrote-length, tail-part, behind}
 use Rattle.make_lines.specs.Lines.{before, withoutReturn, linesOf, passedOver, borne, bearing, over}
 use Rattle.make_lines.specs.Lines as Lines
 use Rattle.make_lines.specs.Draft.{lineMaking, lineRecord, notDrafted, onMade, takenBy, lineTaken, takenBytes, draftFrom, recordsOn, recordsFrom, LinesPromise, enough, onEnough, bytesOn, draftOf, draftBytes, DraftPromise}

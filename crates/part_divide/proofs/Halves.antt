@@ -28,7 +28,8 @@ use Rattle.rules.specs.Refusals.{refusal}
 use Rattle.rules.specs.Run.{chunks, recordsOf}
 use Rattle.rules.specs.declared.Refusal.{Refusal}
 use Rattle.run_figures.specs.Slots.{summed}
-use Rattle.write_file.proofs.Wrote.{tail-part, end-length}
+use Rattle.field_texts.proofs.Wrote.{tail-part}
+use Rattle.write_file.proofs.Ends.{end-length}
 use Rattle.part_divide.specs.Halves.{Divisible, firstHalf, secondHalf, divided}
 
 -- ---- figures with both ends

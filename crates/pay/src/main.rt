@@ -1,12 +1,14 @@
-// The office's tool over whole files: pay check, close, join and part.
+// The office's tool over whole files: pay check, make, close, join and part.
 
-ghost use Prim.Native.Nat.{_≤_};
+ghost use Prim.Native.Nat.{_*_, _≤_};
 ghost use lib.ListN.{length};
+ghost use Rattle.limits.specs.Limits.{recordBytes};
 ghost use Rattle.operations.specs.Closing.{fileBytes};
 use figures::counts::Count;
 use figures::totals::Totals;
 use limits::MOST_RECORDS;
 use limits::RECORD_BYTES;
+use make_lines::Drafting;
 use operations::Parting;
 use rules::Mode;
 use rules::Verdict;
@@ -17,6 +19,9 @@ use tool_phrases::help;
 
 // A file of full size and a record more, which the rules refuse.
 const ROOM: usize = RECORD_BYTES * (MOST_RECORDS + 1);
+
+// Values of a draft of full size, each field written out, and half as much again for remarks.
+const VALUES_ROOM: usize = 32_000_000;
 
 fn check(file: &[u8]) {
     match check_file::check(asked::day(), file) {
@@ -57,7 +62,7 @@ fn read_second(first: &[u8], name: &[u8], second: &mut [u8], out: &mut [u8]) {
         return;
     }
     let n = io::read_full(fd, second);
-    if tool_files::ended(fd, name) {
+    if tool_files::ended(fd, name, b"a file has at most 200,000 records") {
         join(first, &second[..n], out);
     }
 }
@@ -100,6 +105,7 @@ fn serve(file: &[u8], second: &mut [u8], third: &mut [u8]) {
         Command::Close => close(file, second),
         Command::Join => with_second(file, second, third),
         Command::Part => part(file, second, third),
+        Command::Make => help::say_usage(Command::Make),
         Command::Help => help::say_help(),
         Command::Unknown => help::say_usage(Command::Unknown),
     }
@@ -111,7 +117,7 @@ fn read_first(name: &[u8], first: &mut [u8], second: &mut [u8], third: &mut [u8]
         return;
     }
     let n = io::read_full(fd, first);
-    if tool_files::ended(fd, name) {
+    if tool_files::ended(fd, name, b"a file has at most 200,000 records") {
         serve(&first[..n], second, third);
     }
 }
@@ -140,6 +146,58 @@ fn hold(again: u64) {
     with_room(&mut first, &mut second, &mut third);
 }
 
+// The draft of so many records goes to the file that the command line names.
+fn keep_draft(out: &[u8], records: u64)
+    requires { ⌜ recordBytes * records ≤ length (now out) ⌝ }
+{
+    let mut name = io::buffer();
+    let n = os::arg(3, &mut name);
+    let end = RECORD_BYTES * records as usize;
+    if tool_files::save(&name[..n], &out[..end]) {
+        tool_values::tell_made(records);
+    }
+}
+
+fn make(values: &[u8], out: &mut [u8]) {
+    match make_lines::make_draft(values, out) {
+        Drafting::Drafted(records) => keep_draft(out, records),
+        Drafting::NotDrafted(x) => tool_values::tell_not_made(x, values),
+    }
+}
+
+fn read_values(name: &[u8], values: &mut [u8], out: &mut [u8]) {
+    let fd = tool_files::open_input(name);
+    if fd < 0 {
+        return;
+    }
+    let n = io::read_full(fd, values);
+    if tool_files::ended(fd, name, b"values have at most 32,000,000 bytes") {
+        make(&values[..n], out);
+    }
+}
+
+fn run_values(values: &mut [u8], out: &mut [u8]) {
+    let mut name = io::buffer();
+    let n = os::arg(2, &mut name);
+    read_values(&name[..n], values, out);
+}
+
+fn with_values(values: &mut [u8; VALUES_ROOM], out: &mut [u8; ROOM]) {
+    run_values(values, out);
+}
+
+// Room for values and a draft, in a frame of its own as above.
+fn hold_values(again: u64) {
+    if 0 < again {
+        hold_values(again - 1);
+        program_lines::end_line();
+        return;
+    }
+    let mut values = [0u8; VALUES_ROOM];
+    let mut out = [0u8; ROOM];
+    with_values(&mut values, &mut out);
+}
+
 fn main() {
     let command = asked::command_given();
     if let Command::Help = command {
@@ -151,5 +209,10 @@ fn main() {
         return;
     }
     // asked for a second time, so that the compiler cannot see that this is 0
-    hold((os::arg_count() / 1000000) as u64);
+    let again = (os::arg_count() / 1000000) as u64;
+    if let Command::Make = command {
+        hold_values(again);
+        return;
+    }
+    hold(again);
 }

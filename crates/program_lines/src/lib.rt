@@ -95,6 +95,12 @@ pub fn print_operand(verdict: Verdict) {
     }
 }
 
+// How many records were made, without the line's end.
+pub fn print_made(records: u64) {
+    io::write_all(STDOUT_FILENO, b"made");
+    print_number(records);
+}
+
 // The answer of a parting, without the line's end.
 pub fn print_parting(parting: Parting) {
     match parting {

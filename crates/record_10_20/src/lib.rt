@@ -90,7 +90,7 @@ fn may_open(a: Assignment, file: Totals) -> Finding
 }
 
 // Fields 1 to 3 of a record 20.
-fn head(r: &[u8]) -> Finding
+pub fn head(r: &[u8]) -> Finding
     requires { ⌜ length (now r) ≡ recordBytes ⌝ }
     ensures { λ x. ⌜ ((f : Totals) (ks : List ℕ) → x ≡ firstFault f ks (now (r .entry)) head20) ⌝ }
 {
@@ -112,7 +112,7 @@ fn wrong(number: u8, field: u8) -> Keyed
 }
 
 // Fields 7 and 8 of a record 20: the account, then zeros.
-fn tail(r: &[u8]) -> Finding
+pub fn tail(r: &[u8]) -> Finding
     requires { ⌜ length (now r) ≡ recordBytes ⌝ }
     ensures { λ x. ⌜ ((f : Totals) (ks : List ℕ) → x ≡ firstFault f ks (now (r .entry)) tail20) ⌝ }
 {

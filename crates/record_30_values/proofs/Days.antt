@@ -10,7 +10,7 @@ use Rattle.dates.specs.Dates.{dayOf, readDay}
 use Rattle.dates.specs.declared.Day.{Day}
 use Rattle.fields.specs.Bytes.{every, isDigit, part, Inside}
 use Rattle.fields.specs.Numbers.{value, numberOf, pairsOf, paired, Digits, Number, NotDigits, DigitPairs, Pairs, NoPairs}
-use Rattle.fields.proofs.Values.{number-is, number-not}
+use Rattle.fields.proofs.Values.{number-is, number-not, number-yes}
 use Rattle.fields.proofs.Width.{below-at}
 
 -- three numbers of two digits of sixteen bits each, behind an empty one
@@ -81,3 +81,7 @@ module _ (s : List ℕ) (d : DigitPairs) (e : d ≡ paired (numberOf s)) where
           let both = number-is s n g in
           (both .0, sym (pairs-one (pairsOf n) p k) ∙ ap pairsOf (sym (both .1)))
       go NotDigits g k = absurd (some-pairs p (sym k))
+
+-- a date field of digits has six of them
+pub six-digits : (r : List ℕ) → length r ≡ 81 → every isDigit (part 16 21 r) ≡ true → value (part 16 21 r) < 1000000
+six-digits r h e = below-at 16 21 r _ (omega arith) (number-yes (part 16 21 r) e)

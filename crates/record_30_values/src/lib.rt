@@ -58,7 +58,7 @@ pub fn number(r: &[u8], a: Assignment) -> Numbered
 }
 
 // The date whose day, month and year are numbers of two digits, side by side.
-fn day_in(pairs: u64) -> Day
+pub fn day_in(pairs: u64) -> Day
     ensures { λ x. ⌜ ((n : ℕ) → n < 1000000 → pairs ≡ pairsOf n → x ≡ readDay n) ⌝ }
 {
     dates::day_of(
@@ -93,7 +93,7 @@ pub fn date(r: &[u8], w: Window, a: Assignment) -> Dated
 }
 
 // The amount's own limit, by the type.
-fn keeps_own_limit(code: u8, n: u64) -> bool
+pub fn keeps_own_limit(code: u8, n: u64) -> bool
     ensures { λ x. ⌜ x ≡ ownLimit code n ⌝ }
 {
     if code == 4 {

@@ -42,7 +42,7 @@ fn sound31(r: &[u8]) -> bool
 }
 
 // Fields 6 to 9 of a record 31, for their first fault.
-fn texts(r: &[u8]) -> Finding
+pub fn texts(r: &[u8]) -> Finding
     requires { ⌜ length (now r) ≡ recordBytes ⌝ }
     ensures { λ x. ⌜ ((f : Totals) (ks : List ℕ) → x ≡ firstFault f ks (now (r .entry)) texts31) ⌝ }
 {
@@ -100,7 +100,7 @@ fn sound40(r: &[u8], code: u8) -> bool
 }
 
 // Fields 6 to 10 of a record 40 of its own type, for their first fault.
-fn address(r: &[u8]) -> Finding
+pub fn address(r: &[u8]) -> Finding
     requires { ⌜ length (now r) ≡ recordBytes ⌝ }
     ensures { λ x. ⌜ ((f : Totals) (ks : List ℕ) → x ≡ firstFault f ks (now (r .entry)) (address40 (typeCode (now (r .entry))))) ⌝ }
 {

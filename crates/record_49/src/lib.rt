@@ -14,7 +14,7 @@ use layout::Finding;
 use rules::Assignment;
 
 // A number from 1 to its bound, or none.
-enum Bounded {
+pub enum Bounded {
     InBounds(u64),
     OutOfBounds,
 }
@@ -55,6 +55,22 @@ fn number_up_to(r: &[u8], from: usize, to: usize, most: u64) -> Bounded
     Bounded::InBounds(n)
 }
 
+// Field 7, the line.
+pub fn line_in(r: &[u8]) -> Bounded
+    requires { ⌜ length (now r) ≡ recordBytes ⌝ }
+    ensures { λ n. ⌜ n ≡ upTo 21 (part 17 19 (now (r .entry))) ⌝ }
+{
+    number_up_to(r, 17, 19, 21)
+}
+
+// Field 8, the column.
+pub fn column_in(r: &[u8]) -> Bounded
+    requires { ⌜ length (now r) ≡ recordBytes ⌝ }
+    ensures { λ n. ⌜ n ≡ upTo 2 (part 20 20 (now (r .entry))) ⌝ }
+{
+    number_up_to(r, 20, 20, 2)
+}
+
 // A record 49 with a fault takes no place.
 fn unplaced(number: u8, field: u8) -> Placed
     ensures { λ x. ⌜ x .finding ≡ Finding.Fault number field ⌝ }
@@ -70,10 +86,10 @@ fn placing(r: &[u8], a: Assignment) -> Placed
     requires { ⌜ length (now r) ≡ recordBytes ⌝ }
     ensures { λ x. ⌜ PlaceBy a (now (r .entry)) x ⌝ }
 {
-    let Bounded::InBounds(line) = number_up_to(r, 17, 19, 21) else {
+    let Bounded::InBounds(line) = line_in(r) else {
         return unplaced(7, 7);
     };
-    let Bounded::InBounds(column) = number_up_to(r, 20, 20, 2) else {
+    let Bounded::InBounds(column) = column_in(r) else {
         return unplaced(7, 8);
     };
     let place = line * 2 + column;

@@ -9,7 +9,10 @@ ghost use lib.ListN.{length};
 ghost use Rattle.limits.specs.Limits.{recordBytes};
 ghost use Rattle.choice.specs.Choice.{if_then_else_};
 ghost use Rattle.layout.specs.Rows.{firstFault, AllHold};
+ghost use Rattle.fields.specs.Bytes.{part};
+ghost use Rattle.rules.specs.Codes.{serviceCode};
 ghost use Rattle.rules.specs.Layouts.{head50, kid50};
+ghost use Rattle.rules.specs.Payments.{isKidOf};
 ghost use Rattle.record_50.specs.Found.{AmountBy, SpecifiedBy};
 use field_digits::Digits;
 use figures::amounts::Amount;
@@ -59,19 +62,30 @@ fn headed(r: &[u8], a: Assignment) -> bool
         & record_shared::numbered(n).equals(number)
 }
 
+// Field 6 of a record 50, a KID; service 01 takes only the right end.
+pub fn kid_sound(r: &[u8]) -> bool
+    requires { ⌜ length (now r) ≡ recordBytes ⌝ }
+    ensures { λ x. ⌜ x ≡ isKidOf (serviceCode (now (r .entry))) (part 16 40 (now (r .entry))) ⌝ }
+{
+    if fields::code_at(r, 3) == 1 {
+        return fields::kid_right_at(r, 16, 40);
+    }
+    fields::kid_at(r, 16)
+}
+
 // Fields 1 to 6 of a record 50. Where all of it holds, no fault is looked for.
 fn referring(r: &[u8], a: Assignment) -> Finding
     requires { ⌜ length (now r) ≡ recordBytes ⌝ }
-    ensures { λ x. ⌜ ((f : Totals) (ks : List ℕ) → x ≡ firstFault f ks (now (r .entry)) (head50 a (now (r .entry)) ++ kid50)) ⌝ }
+    ensures { λ x. ⌜ ((f : Totals) (ks : List ℕ) → x ≡ firstFault f ks (now (r .entry)) (head50 a (now (r .entry)) ++ kid50 (now (r .entry)))) ⌝ }
 {
-    if headed(r, a) & fields::kid_at(r, 16) {
+    if headed(r, a) & kid_sound(r) {
         return Finding::Sound;
     }
     let head = heading(r, a);
     let Finding::Sound = head else {
         return head;
     };
-    head.demand(fields::kid_at(r, 16), 8, 6)
+    head.demand(kid_sound(r), 8, 6)
 }
 
 // A record 50 with a fault specifies nothing.

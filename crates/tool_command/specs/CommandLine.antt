@@ -11,20 +11,22 @@ use Rattle.fields.specs.Numbers.{value}
 use Rattle.dates.specs.declared.ProcessDay.{ProcessDay}
 use Rattle.program_lines.specs.Days.{dayWritten}
 use Rattle.tool_command.specs.declared.Command.{Command}
-use Rattle.tool_command.specs.declared.Command.the-variants.{Check, Close, Join, Part, Help, Unknown}
+use Rattle.tool_command.specs.declared.Command.the-variants.{Check, Make, Close, Join, Part, Help, Unknown}
 
 -- the command that a word names, in these letters and no others
 unfoldable pub commandFrom : List ℕ → Command
 commandFrom word =
     if same word (text "check") then Check
+    else (if same word (text "make") then Make
     else (if same word (text "close") then Close
     else (if same word (text "join") then Join
     else (if same word (text "part") then Part
-    else (if same word (text "help") then Help else Unknown))))
+    else (if same word (text "help") then Help else Unknown)))))
 
 -- the words of a command line, `pay` and the command among them: pay part DDMMYY FILE K OUT1 OUT2 has seven
 abbrev pub wordsOf : Command → ℕ
 wordsOf Check = 4
+wordsOf Make = 4
 wordsOf Close = 5
 wordsOf Join = 6
 wordsOf Part = 7

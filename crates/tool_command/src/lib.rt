@@ -8,6 +8,7 @@ use field_digits::Digits;
 
 pub enum Command {
     Check,
+    Make,
     Close,
     Join,
     Part,
@@ -29,6 +30,9 @@ fn command_from(word: &[u8]) -> Command
 {
     if is_word(word, b"check") {
         return Command::Check;
+    }
+    if is_word(word, b"make") {
+        return Command::Make;
     }
     if is_word(word, b"close") {
         return Command::Close;
@@ -58,6 +62,7 @@ pub fn words_of(command: Command) -> usize
 {
     match command {
         Command::Check => 4,
+        Command::Make => 4,
         Command::Close => 5,
         Command::Join => 6,
         Command::Part => 7,

@@ -1,7 +1,7 @@
 // What people read after a refusal: the number in words, where it stands, and the record with its field underlined.
 
 pub mod answers;
-mod remedies;
+pub mod remedies;
 
 use limits::RECORD_BYTES;
 use rules::Kind;
@@ -31,7 +31,7 @@ fn say_letter(b: u8) {
     say(&[195, b - 64]);
 }
 
-fn say_letters(r: &[u8]) {
+pub fn say_letters(r: &[u8]) {
     let mut i: usize = 0;
     while i < r.len() {
         say_letter(r[i]);
@@ -48,7 +48,7 @@ fn say_mark(position: u64, from: u64) {
     say(b"^");
 }
 
-fn underline(positions: Positions) {
+pub fn underline(positions: Positions) {
     let from = positions.from;
     let to = positions.to;
     let mut i: u64 = 0;
@@ -154,7 +154,7 @@ fn show_record(x: Refusal, mode: Mode, file: &[u8]) {
 }
 
 // The right form of a day and a date.
-fn say_form(number: u8) {
+pub fn say_form(number: u8) {
     match number {
         1 => say(b"A day is written DDMMYY: 011025 is 1 October 2025.\n"),
         9 => say(b"A date is written DDMMYY: 011125 is 1 November 2025.\n"),

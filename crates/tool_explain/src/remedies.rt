@@ -51,7 +51,8 @@ fn say_digit(digit: u8) {
     say(b".\n");
 }
 
-fn say_remedy(number: u8, remedy: Remedy) {
+// What would be right, in a line.
+pub fn say_remedy(number: u8, remedy: Remedy) {
     match remedy {
         Remedy::Unknown => say(b""),
         Remedy::Value(n, width) => say_value(number, n, width),

@@ -38,8 +38,8 @@ pub fn open_input(name: &[u8]) -> i32 {
     fd
 }
 
-// After a full buffer or the end of an input nothing more may come; trouble is told.
-pub fn ended(fd: i32, name: &[u8]) -> bool {
+// After a full buffer or the end of an input nothing more may come; trouble is told, with how long it may be.
+pub fn ended(fd: i32, name: &[u8], most: &[u8]) -> bool {
     let mut more = [0u8; 1];
     let left = libc::read(fd, &mut more);
     let error = os::errno();
@@ -51,7 +51,9 @@ pub fn ended(fd: i32, name: &[u8]) -> bool {
     if 0 < left {
         say(b"trouble with ");
         say(name);
-        say(b": it is too long, a file has at most 200,000 records\n");
+        say(b": it is too long, ");
+        say(most);
+        program_lines::end_line();
         return false;
     }
     true

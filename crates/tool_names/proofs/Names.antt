@@ -14,7 +14,7 @@ use Rattle.io.specs.Counts.{Counts}
 use Rattle.choice.specs.Choice.{if_then_else_}
 use Rattle.fields.specs.Bytes.{isDigit}
 use Rattle.fields.proofs.Tests.{and-both}
-use Rattle.write_file.proofs.Wrote.{Wrote, at-first, behind, wrote-length}
+use Rattle.field_texts.proofs.Wrote.{Wrote, at-first, behind, wrote-length}
 use Rattle.tool_names.specs.Names.{longer, throughSlash}
 
 pub no-room : (room : ℕ) (name ending : List ℕ) → room < length name + length ending → [] ≡ longer room name ending

@@ -22,8 +22,8 @@ pub fn lengthened(name: &[u8], ending: &[u8], buffer: &mut [u8]) -> usize
     if room - len < ending.len() {
         return 0;
     }
-    write_file::copy_to(buffer, name);
-    write_file::copy_to(&mut buffer[len..], ending);
+    field_texts::copy_to(buffer, name);
+    field_texts::copy_to(&mut buffer[len..], ending);
     len + ending.len()
 }
 

@@ -7,12 +7,13 @@ use tool_command::Command;
 pub fn say_usage(command: Command) {
     match command {
         Command::Check => say(b"usage: pay check DDMMYY FILE\n"),
+        Command::Make => say(b"usage: pay make VALUES DRAFT\n"),
         Command::Close => say(b"usage: pay close DDMMYY DRAFT OUT\n"),
         Command::Join => say(b"usage: pay join DDMMYY FIRST SECOND OUT\n"),
         Command::Part => say(b"usage: pay part DDMMYY FILE K OUT1 OUT2\n"),
         Command::Help => say(b"usage: pay help\n"),
         Command::Unknown => say(
-            b"usage: pay check | close | join | part | help; pay help says more\n",
+            b"usage: pay check | make | close | join | part | help; pay help says more\n",
         ),
     }
 }
@@ -20,11 +21,13 @@ pub fn say_usage(command: Command) {
 // The help page.
 pub fn say_help() {
     say_commands();
+    say_values();
     say_answers();
 }
 
 fn say_commands() {
     say(b"pay check DDMMYY FILE               Is the file as the clearing house wants it?\n");
+    say(b"pay make  VALUES DRAFT              Makes the records of a draft from values.\n");
     say(b"pay close DDMMYY DRAFT OUT          Adds the end records 88 and 89 to a draft.\n");
     say(b"pay join  DDMMYY FIRST SECOND OUT   Makes one file of two.\n");
     say(b"pay part  DDMMYY FILE K OUT1 OUT2   Makes two of one: OUT1 gets K assignments.\n");
@@ -34,16 +37,33 @@ fn say_commands() {
     say(b"\n");
 }
 
+// What a line of values has, for each record type.
+fn say_values() {
+    say(b"VALUES has a line for each record, as a spreadsheet exports it in ISO 8859-1 (CSV\n");
+    say(b"with semicolons). Empty lines and lines that begin with # are passed over.\n");
+    say(b"  10;sender;number\n");
+    say(b"  20;service;agreement;assignment;account\n");
+    say(b"  30;service;type;transaction;DDMMYY;payee or payer;amount;KID\n");
+    say(b"  31;service;type;transaction;short name;own reference;the other's reference\n");
+    say(b"  40;service;type;transaction;name;postal code;postal filler;area\n");
+    say(b"  49;service;type;transaction;line;column;text\n");
+    say(b"  50;service;type;transaction;KID;amount\n");
+    say(b"An amount is in hundredths of a krone: 80000 is 800.00 kroner.\n");
+    say(b"\n");
+}
+
 fn say_answers() {
     say(b"The first line of an answer is made for programs:\n");
     say(b"  accepted 1 1 6 80000 011125       assignments, transactions, records, sum in\n");
     say(b"                                    hundredths of a krone, first date\n");
+    say(b"  made 4                            records\n");
     say(b"  parted\n");
-    say(b"  refused 18 5 7                    number, record, field; when joining also\n");
-    say(b"                                    the file, 1 or 2 (0: the joined one)\n");
+    say(b"  refused 18 5 7                    number, record (of values the line), field;\n");
+    say(b"                                    when joining also the file, 1 or 2 (0: the\n");
+    say(b"                                    joined one)\n");
     say(b"Behind a refusal stands, for people, what is wrong and where.\n");
     say(b"\n");
-    say(b"The status is 0 for accepted and parted, 1 for refused, 2 for wrong usage or\n");
+    say(b"The status is 0 for accepted, made and parted, 1 for refused, 2 for wrong usage or\n");
     say(b"trouble with a file. An output takes its name only when it is whole; else\n");
     say(b"nothing has changed. It may have the name of an input.\n");
 }

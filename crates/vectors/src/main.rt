@@ -5,6 +5,8 @@ ghost use lib.ListN.{length};
 use dates::ProcessDay;
 use field_digits::Digits;
 use libc::STDOUT_FILENO;
+use make_lines::Drafting;
+use rules::Verdict;
 
 // Room for the longest vector, and for each of its outputs.
 const ROOM: usize = 163_840;
@@ -113,6 +115,22 @@ fn part(all: &[u8], first: &mut [u8], second: &mut [u8])
     program_lines::print_number(hash(&second[0..room2]));
 }
 
+// `make  000000 ROOM`, then lines of values.
+fn make(all: &[u8], out: &mut [u8])
+    requires { ⌜ 34 ≤ length (now all) ⌝ }
+{
+    let room = six_at(all, 14) as usize;
+    if out.len() < room {
+        no_vector();
+        return;
+    }
+    match make_lines::make_draft(&all[34..], &mut out[0..room]) {
+        Drafting::Drafted(records) => program_lines::print_made(records),
+        Drafting::NotDrafted(x) => program_lines::print_answer(Verdict::Refused(x)),
+    }
+    program_lines::print_number(hash(&out[0..room]));
+}
+
 // By the first two letters of the first line; outputs hold `#` before anything is written.
 fn answer(all: &[u8]) {
     if all.len() < 34 {
@@ -125,6 +143,9 @@ fn answer(all: &[u8]) {
     }
     if all[0] == b'p' {
         return part(all, &mut first, &mut second);
+    }
+    if all[0] == b'm' {
+        return make(all, &mut first);
     }
     if all[1] == b'l' {
         return close(all, &mut first);

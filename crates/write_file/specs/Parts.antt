@@ -1,15 +1,11 @@
--- An end record in two parts, as it is written: fields 1 to 4, and its figures with the zeros after them.
+-- What an end record has behind fields 1 to 4: its figures, the zeros after them and the line feed.
 -- Assumes nothing.
 use Prim.Native.Nat.{ℕ}
 use mathlib.Core.List.{List, [], _∷_, _++_}
 use Rattle.dates.specs.Dates.{ddmmyy}
 use Rattle.dates.specs.declared.Date.{Date}
-use Rattle.fields.specs.Bytes.{text}
 use Rattle.fields.specs.Numbers.{written}
 use Rattle.figures.specs.declared.totals.Totals.{Totals}
-
-unfoldable pub headBytes : ℕ → ℕ → List ℕ
-headBytes service type = text "NY" ++ (written 2 service ++ (written 2 0 ++ written 2 type))
 
 unfoldable pub figureBytes : Totals → Date → List ℕ
 figureBytes t last =

@@ -8,10 +8,11 @@ mod archive;
 mod picture;
 
 use picture::{Line, Panel};
-use reference::answer::{Answer, Place, What};
+use reference::answer::{Answer, PLACES, Place, What, of_making};
 use reference::cases::{Case, Operation, answer};
+use reference::make::Values;
 use reference::sample::{DAY, Plan, draft_and_file};
-use reference::{RECORD, Variant};
+use reference::{RECORD, Variant, make, till};
 use std::hint::black_box;
 use std::process::ExitCode;
 use std::time::Instant;
@@ -89,9 +90,9 @@ impl Work {
 fn works(plan: Plan) -> Vec<Work> {
     let (draft, file) = draft_and_file(plan);
     let records = file.len() / RECORD;
-    let case = |operation, first: &[u8], rooms| {
-        let (first, second) = (first.to_vec(), Vec::new());
-        Case { operation, day: DAY, first, second, k: 0, rooms }
+    let case = |operation, first: &[u8], rooms| Case {
+        rooms,
+        ..Case::new(operation, DAY, first.to_vec())
     };
     let mut cases = vec![
         case(Operation::Check, &file, [0, 0]),
@@ -108,6 +109,60 @@ fn works(plan: Plan) -> Vec<Work> {
         cases.push(Case { k, ..case(Operation::Part, &file, rooms) });
     }
     cases.into_iter().map(|case| Work { case, records }).collect()
+}
+
+/// The records of a draft, each made from its values by its operation and put behind those
+/// before it. The values are at hand.
+struct Making<'a> {
+    draft: &'a [u8],
+    values: Vec<Values<'a>>,
+}
+
+impl<'a> Making<'a> {
+    fn new(draft: &'a [u8]) -> Self {
+        Self { draft, values: till::bare_values(draft) }
+    }
+
+    /// Has every record made.
+    #[inline]
+    fn make_all(&self, out: &mut [u8], mut make: impl FnMut(Values, &mut [u8], &mut Answer)) {
+        let mut answer = [0; PLACES];
+        for (&values, place) in self.values.iter().zip(out.chunks_exact_mut(RECORD)) {
+            make(black_box(values), place, &mut answer);
+            assert!(answer[Place::What as usize] == What::Made as u64, "{values:?} {answer:?}");
+        }
+    }
+
+    fn ask_archive(&self, out: &mut [u8]) {
+        self.make_all(out, |values, place, answer| {
+            archive::make(values, place, answer);
+        });
+    }
+
+    fn ask_reference(&self, out: &mut [u8]) {
+        self.make_all(out, |values, place, answer| *answer = of_making(make(values, place)));
+    }
+
+    /// The archive's times, if it makes records, and this implementation's.
+    fn times(&self) -> (Option<Times>, Times) {
+        let mut out = vec![0; self.draft.len()];
+        let has = archive::operations().contains(&Operation::MakeDraft);
+        if has {
+            self.ask_archive(&mut out);
+            assert!(out == self.draft, "the archive made another draft");
+            out.fill(0);
+        }
+        self.ask_reference(&mut out);
+        assert!(out == self.draft, "the reference made another draft");
+        let (mut of_archive, mut of_reference) = (Vec::new(), Vec::new());
+        for _ in 0..RUNS {
+            if has {
+                of_archive.push(time(1, || self.ask_archive(&mut out)));
+            }
+            of_reference.push(time(1, || self.ask_reference(&mut out)));
+        }
+        (has.then(|| Times::of(of_archive)), Times::of(of_reference))
+    }
 }
 
 fn per_record(seconds: f64, records: usize) -> f64 {
@@ -136,8 +191,22 @@ fn processor() -> String {
     format!("{name} ({})", std::env::consts::ARCH)
 }
 
+/// The two lines of an operation.
+fn rows(name: &str, (of_archive, of_reference): (Option<Times>, Times), records: usize) {
+    match of_archive {
+        Some(times) => println!(
+            "{}  {:.2} : 1 (best {:.2} : 1)",
+            row(name, "archive", times, records),
+            times.median / of_reference.median,
+            times.best / of_reference.best
+        ),
+        None => println!("{name:<7} archive    has it not"),
+    }
+    println!("{}", row(name, "reference", of_reference, records));
+}
+
 fn season() {
-    let (_, file) = draft_and_file(Plan::SEASON);
+    let (draft, file) = draft_and_file(Plan::SEASON);
     let figures = reference::check(DAY, &file).expect("the season's file is sound");
     let records = file.len() / RECORD;
     println!("processor: {}; median and best of {RUNS} runs, turn by turn", processor());
@@ -149,19 +218,10 @@ fn season() {
     );
     println!("                      ms  ns/record      best      MB/s  archive : reference");
     for work in works(Plan::SEASON) {
-        let name = work.case.operation.name();
-        let (of_archive, of_reference) = work.times(RUNS);
-        match of_archive {
-            Some(times) => println!(
-                "{}  {:.2} : 1 (best {:.2} : 1)",
-                row(name, "archive", times, records),
-                times.median / of_reference.median,
-                times.best / of_reference.best
-            ),
-            None => println!("{name:<7} archive    has it not"),
-        }
-        println!("{}", row(name, "reference", of_reference, records));
+        rows(work.case.operation.name(), work.times(RUNS), records);
     }
+    let making = Making::new(&draft);
+    rows("make", making.times(), making.values.len());
     let mut out = vec![0; file.len()];
     let mut copy = || time(1, || black_box(&mut out).copy_from_slice(black_box(&file)));
     copy();
@@ -205,7 +265,7 @@ impl Spot {
     }
 }
 
-/// A line for each operation by the archive, and one by the reference.
+/// A line for each operation on files by the archive, and one by the reference.
 fn lines(spots: &[Spot]) -> Vec<Line> {
     let line = |operation: Operation, who: usize| {
         let of = |spot: &Spot| {
@@ -218,7 +278,7 @@ fn lines(spots: &[Spot]) -> Vec<Line> {
             points: spots.iter().filter_map(of).collect(),
         }
     };
-    Operation::ALL
+    [Operation::Check, Operation::Close, Operation::Join, Operation::Part]
         .into_iter()
         .flat_map(|operation| [0, 1].map(|who| line(operation, who)))
         .collect()

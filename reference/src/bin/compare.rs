@@ -51,8 +51,21 @@ fn found(case: &Case) -> Outcome {
     let [mut one, mut two] = case.rooms.map(Lent::new);
     let before = case.clone();
     let answer = archive::ask(case, one.out(), two.out()).expect("the archive has the operation");
-    assert!(before.first == case.first && before.second == case.second, "an input was changed");
+    assert!(
+        before.first == case.first && before.second == case.second && before.texts == case.texts,
+        "an input was changed"
+    );
     Outcome { answer, outputs: [one.all, two.all] }
+}
+
+/// Whether a sound draft that was made of its values is what was foretold and can be closed.
+fn comes_out(case: &Case, outcome: &Outcome) -> bool {
+    if case.operation != Operation::MakeDraft || case.second.is_empty() {
+        return true;
+    }
+    let written = &outcome.outputs[0][MARGIN..][..Place::Written.of(&outcome.answer) as usize];
+    let mut out = vec![0; 2 * written.len() + RECORD];
+    written == case.second && reference::close(case.day, written, &mut out).is_ok()
 }
 
 fn differs(case: &Case) -> bool {
@@ -69,8 +82,11 @@ fn without(case: &Case, of_second: bool, from: usize, records: usize) -> Option<
 }
 
 /// Leaves out runs of records, long ones first, as long as the answers still
-/// differ.
+/// differ. What a record is made of is small as it is, and so are lines.
 fn smallest(mut case: Case) -> Case {
+    if case.values().is_some() || case.operation == Operation::MakeDraft {
+        return case;
+    }
     let mut run = case.first.len().max(case.second.len()) / RECORD;
     while run > 0 {
         for of_second in [false, true] {
@@ -111,15 +127,26 @@ fn report_answers(expected: &Answer, found: &Answer) {
 }
 
 fn report(case: &Case) {
-    println!(
-        "{} day {:?} k {} outputs of {:?} bytes",
-        case.operation.name(),
-        case.day,
-        case.k,
-        case.rooms
-    );
-    show("first", &case.first);
-    show("second", &case.second);
+    let Case { operation, day, first, second, k, rooms, .. } = case;
+    let name = operation.name();
+    if let Some(values) = case.values() {
+        println!("{name} output of {} bytes", rooms[0]);
+        println!("numbers: {:?}", case.numbers);
+        for text in &case.texts {
+            println!("text: {} bytes \"{}\"", text.len(), text.escape_ascii());
+        }
+        println!("that is {values:?}");
+    } else if *operation == Operation::MakeDraft {
+        println!("{name} output of {} bytes, of {} bytes of lines", rooms[0], first.len());
+        for line in first.split_inclusive(|&byte| byte == b'\n').take(60) {
+            println!("  {}", line.escape_ascii());
+        }
+        show("foretold", second);
+    } else {
+        println!("{name} day {day:?} k {k} outputs of {rooms:?} bytes");
+        show("first", first);
+        show("second", second);
+    }
     let (expected, found) = (expected(case, Variant::PLAIN), found(case));
     report_answers(&expected.answer, &found.answer);
     for (name, a, b) in [
@@ -136,6 +163,17 @@ fn report(case: &Case) {
 /// The type of the record that a refusal names.
 fn record_type(case: &Case, answer: &Answer) -> String {
     let (operand, record) = (Place::Operand.of(answer), Place::Record.of(answer));
+    if case.operation == Operation::MakeDraft {
+        let mut lines = case.first.split(|&byte| byte == b'\n');
+        let line = (record as usize).checked_sub(1).and_then(|line| lines.nth(line));
+        return match line.map(|line| line.split(|&byte| byte == b';').next().unwrap_or_default()) {
+            None => "-".into(),
+            Some(kind @ (b"10" | b"20" | b"30" | b"31" | b"40" | b"49" | b"50")) => {
+                String::from_utf8_lossy(kind).into()
+            }
+            Some(_) => "none".into(),
+        };
+    }
     let data = if operand == 2 { &case.second } else { &case.first };
     let at = (record as usize).wrapping_sub(1).wrapping_mul(RECORD);
     match data.get(at + 6..at + 8) {
@@ -212,6 +250,7 @@ fn run_vectors(folder: &str) -> ExitCode {
 fn run(cases: u64, seed: u64) -> ExitCode {
     let operations = operations();
     let mut histogram = Histogram::default();
+    let mut drafts = 0;
     for index in 0..cases {
         let case = case(seed, index, &operations);
         let expected = expected(&case, Variant::PLAIN);
@@ -220,6 +259,12 @@ fn run(cases: u64, seed: u64) -> ExitCode {
             println!("case {index} of seed {seed}: the plain and the fast variant differ");
             return ExitCode::FAILURE;
         }
+        if !comes_out(&case, &expected) {
+            println!("case {index} of seed {seed}: the draft made is not the one foretold");
+            report(&case);
+            return ExitCode::FAILURE;
+        }
+        drafts += u64::from(case.operation == Operation::MakeDraft && !case.second.is_empty());
         if found(&case) != expected {
             println!("case {index} of seed {seed} differs; again: compare case {seed} {index}");
             println!("the smallest found:");
@@ -228,6 +273,9 @@ fn run(cases: u64, seed: u64) -> ExitCode {
         }
     }
     histogram.print();
+    if drafts > 0 {
+        println!("{drafts} sound drafts made of their values, all of them closed");
+    }
     println!("{cases} cases, 0 differ");
     success(operations == Operation::ALL)
 }

@@ -1,27 +1,26 @@
 //! Makes the outside vectors: keeps those for checking, makes those for
-//! closing, joining and parting anew, and answers every one of them.
+//! closing, joining, parting and making anew, and answers every one of them.
 //!
 //! `vectors FOLDER`: the vectors lie in FOLDER/data, the lines in FOLDER/stdout.
 
 use reference::cases::{Case, Operation};
 use reference::records::*;
 use reference::sample::{DAY, Plan, draft_and_file};
-use reference::{Day, RECORD, vectors};
+use reference::{Day, RECORD, till, vectors};
 use std::path::Path;
 use std::{fs, io};
 
 fn close_on(day: Day, draft: &[u8], room: usize) -> Case {
-    let operation = Operation::Close;
-    Case { operation, day, first: draft.to_vec(), second: vec![], k: 0, rooms: [room, 0] }
+    Case { rooms: [room, 0], ..Case::new(Operation::Close, day, draft.to_vec()) }
 }
 
 fn join_on(day: Day, first: &[u8], second: &[u8], room: usize) -> Case {
-    let (first, second) = (first.to_vec(), second.to_vec());
-    Case { operation: Operation::Join, day, first, second, k: 0, rooms: [room, 0] }
+    let case = Case::new(Operation::Join, day, first.to_vec());
+    Case { second: second.to_vec(), rooms: [room, 0], ..case }
 }
 
 fn part_on(day: Day, file: &[u8], k: u64, rooms: [usize; 2]) -> Case {
-    Case { operation: Operation::Part, day, first: file.to_vec(), second: vec![], k, rooms }
+    Case { k, rooms, ..Case::new(Operation::Part, day, file.to_vec()) }
 }
 
 /// Closed into an output that is just long enough.
@@ -395,6 +394,172 @@ fn partings() -> Vec<Case> {
     cases
 }
 
+fn make_into(lines: &[u8], room: usize) -> Case {
+    Case { rooms: [room, 0], ..Case::new(Operation::MakeDraft, DAY, lines.to_vec()) }
+}
+
+/// Made into an output that has room for a record of each line.
+fn make(lines: impl AsRef<[u8]>) -> Case {
+    let lines = lines.as_ref();
+    let count = lines.split(|&byte| byte == b'\n').filter(|line| !line.is_empty()).count();
+    make_into(lines, count * RECORD)
+}
+
+/// The lines of document 01's draft.
+const WHOLE: &str = "10;12345;0110001\n\
+    20;4;1;1;12345678903\n\
+    30;4;2;1;011125;12345678903;80000;\n\
+    31;4;2;1;MAKRELL;;\n";
+
+fn sound_makings() -> Vec<Case> {
+    // Document 01's draft, in the ways that lines may be written, into outputs of every length.
+    let mut cases = vec![make(WHOLE)];
+    cases.extend([500, 0, 80, 242].map(|room| make_into(WHOLE.as_bytes(), room)));
+    cases.push(make(WHOLE.replace('\n', "\r\n")));
+    cases.push(make(WHOLE.trim_end()));
+    cases.push(make(format!("# till\n\n;;;\n{}\n#10;x", WHOLE.replace('\n', ";;;\r\n\r\n"))));
+    let zeros = "0".repeat(21);
+    cases.push(make(WHOLE.replace(";1;", &format!(";{zeros}1;"))));
+    // Every kind of record, every type, and values by chance.
+    cases.push(make(till::plain_lines(&draft(&every_kind()))));
+    cases.push(make(till::plain_lines(&every_type())));
+    let mut by_chance = sound(3, 5).0;
+    by_chance.iter_mut().filter(|byte| **byte == b';').for_each(|byte| *byte = b',');
+    cases.push(make(till::plain_lines(&by_chance)));
+    // Values at their ends, and records that can stand nowhere; a line of each type.
+    let (right, left) = (format!("{:>25}", "12"), format!("{:<25}", "34"));
+    let (long, most) = ("7".repeat(25), MOST);
+    cases.push(make("10;99999999;9999999\n20;1;999999999;9999999;0\n"));
+    cases.push(make(format!(
+        "30;1;2;0;010100;7;{most};{long}\n30;1;3;9999999;311299; 7;0;{right}\n\
+         30;4;4;1;290296;12345678901;9999999999;\n30;4;12;1;290200;00000000000;0;{left}\n\
+         30;4;16;1;300924;12345678903;1; \n30;4;66;1;011125;12345678903;{most};   \n"
+    )));
+    let letters: Vec<u8> = (160..=255).collect();
+    let texts = [&letters[..10], &letters[10..35], b"!\"$%&'()*+,-./:<=>?@[~ a "].join(&b';');
+    cases.push(make([b"31;1;2;0;", &texts[..], b"\n31;4;66;0; a;;\n"].concat()));
+    cases.push(make(
+        b"40;1;2;1;;;;\n40;4;3;1; a;1 2; 34;b\n40;4;4;1;K;0150;   ;K\n40;4;4;1;\xA0;0000;;.\n",
+    ));
+    cases.push(make("49;1;3;1;1;1;\n49;1;2;1;021;2;x\n49;4;66;1;21;2;;;"));
+    cases.push(make(format!("50;4;16;1;{left};{most}\n50;1;17;0;{right};0\n50;4;17;1;5;1\n")));
+    cases
+}
+
+/// A line for each number and field that making a record of each type can refuse.
+fn refused_makings() -> Vec<Case> {
+    let (left, over) = (format!("{:<25}", "34"), MOST + 1);
+    let blanks = |width| " ".repeat(width);
+    let lines: Vec<String> = vec![
+        // 10
+        "10;100000000;1".into(),
+        "10;0;10000000".into(),
+        // 20
+        "20;100;1;1;1".into(),
+        "20;9;1000000000;99999999;1".into(),
+        "20;4;1;1;100000000000".into(),
+        "20;9;1;1;1".into(),
+        "20;4;1;1;12345678901".into(),
+        "20;1;1;1;60".into(),
+        // 30
+        "30;4;102;1;011125;12345678903;1;".into(),
+        "30;9;2;1;1011125;12345678903;1;".into(),
+        "30;4;2;1;011125; 12345678903;1;".into(),
+        format!("30;4;2;1;011125;12345678903;{over};"),
+        format!("30;9;9;1;999999;x;0;{}", blanks(26)),
+        "30;2;2;1;011125;12345678903;1;".into(),
+        "30;1;4;1;011125;12345678903;1;".into(),
+        "30;4;2;1;290225;x;1;".into(),
+        "30;4;2;1;011125;1234567890;1;".into(),
+        "30;4;4;1;011125;1234567890;10000000000;".into(),
+        "30;1;2;1;011125;7 ;1;".into(),
+        "30;4;2;1;011125;12345678901;1;".into(),
+        "30;1;2;1;011125;00000000067;1;".into(),
+        "30;4;4;1;011125;12345678901;10000000000;1".into(),
+        "30;4;16;1;011125;12345678903;0;1".into(),
+        format!("30;1;2;1;011125;7;1;{left}"),
+        "30;4;12;1;011125;12345678903;1;".into(),
+        "30;4;2;1;011125;12345678903;1;34".into(),
+        // 31
+        "31;4;2;10000000;MAKRELL;;".into(),
+        "31;9;2;1;MAKRELL    ;;".into(),
+        format!("31;4;2;1;\u{1};;{}", blanks(26)),
+        "31;0;2;1;\u{1};;".into(),
+        "31;4;5;1;\u{1};;".into(),
+        "31;4;2;1;\t;;".into(),
+        "31;4;2;1;;;\u{7f}".into(),
+        // 40
+        "40;4;4;1;;01500;;".into(),
+        format!("40;4;4;1;;;;{}", blanks(26)),
+        "40;5;4;1;;;;".into(),
+        "40;1;4;1;;;;".into(),
+        "40;4;4;1; ;0150;;OSLO".into(),
+        "40;4;4;1;K;015;;OSLO".into(),
+        "40;4;3;1;K;015x;;OSLO".into(),
+        "40;4;4;1;K;0150;1;OSLO".into(),
+        "40;4;4;1;K;0150;;".into(),
+        // 49
+        "49;1;3;1;1000;0;".into(),
+        format!("49;9;3;1;0;0;{}", blanks(41)),
+        "49;3;3;1;0;0;\0".into(),
+        "49;1;4;1;0;0;\0".into(),
+        "49;1;3;1;0;0;\0".into(),
+        "49;1;3;1;22;1;\0".into(),
+        "49;1;3;1;1;0;\0".into(),
+        "49;1;3;1;1;3;\0".into(),
+        "49;1;3;1;1;2;\0".into(),
+        // 50
+        format!("50;4;16;1;{};{over}", blanks(26)),
+        format!("50;9;16;1;1;{over}"),
+        "50;9;18;1;;1".into(),
+        "50;4;2;1;;1".into(),
+        "50;4;16;1;;1".into(),
+        format!("50;1;16;1;{left};1"),
+    ];
+    let mut cases: Vec<Case> = lines.iter().map(make).collect();
+    // A fault before a short output.
+    cases.push(make_into(b"50;4;17;1;x;1", 80));
+    cases
+}
+
+/// Lines that bear no record, or none that can be made.
+fn refused_lines() -> Vec<Case> {
+    let mut cases: Vec<Case> =
+        ["", "# 10;1;1\n#", "\r\n;;;;\n\n"].map(|none| make_into(none.as_bytes(), 81)).into();
+    let lines: &[&[u8]] = &[
+        // No record type.
+        b"88;1;1",
+        b";10;1;1",
+        b"10;1;1\n \n",
+        b"1\x000;1;1",
+        // Too few values, and too many.
+        b"10;1",
+        b"20",
+        b"30;4;2;1;011125;12345678903;80000",
+        b"31;x",
+        b"10;1;1;;1",
+        b"31;4;2;1;MAKRELL;;; ;",
+        // No number.
+        b"10;1a;2b",
+        b"20;4;1;;12345678903",
+        b"49;1;3;1;1;+1;",
+        b"50;4;16;1;1;1\x00",
+        b"10;1;1\r\r",
+        b"10;100000000;x",
+        // Beyond 64 bits; wrapped they would be sound.
+        b"10;18446744073709551616;1",
+        b"50;4;16;1;1;99999999999999999999999999999999999999999",
+        // Bytes of a text.
+        b"31;4;2;1;MAK\x00ELL;;",
+        b"31;4;2;1;;\r;",
+    ];
+    cases.extend(lines.iter().map(make));
+    // The first refused line ends it; what was made before stays.
+    cases.push(make(WHOLE.replace("12345678903;80000", "12345678901;80000")));
+    cases.push(make(format!("\r\n#\n{}40;4;2;1;;;;\n\n30;\n41;\n", WHOLE)));
+    cases
+}
+
 fn name(index: usize) -> String {
     format!("v{index:03}")
 }
@@ -418,6 +583,7 @@ fn main() -> io::Result<()> {
         ("close", [sound_closings(), refused_closings()].concat()),
         ("join", [sound_joinings(), refused_joinings()].concat()),
         ("part", partings()),
+        ("make", [sound_makings(), refused_makings(), refused_lines()].concat()),
     ];
     println!("{kept} check vectors kept");
     let mut index = kept;

@@ -13,7 +13,7 @@ use Rattle.close_write.proofs.put_assignment.Reads as reads
 use Rattle.close_write.proofs.put_assignment.Lts as lts
 use Rattle.close_write.proofs.service_in.Reads as service-in-reads
 use Rattle.rules.proofs.record_at.Reads as record-at-reads
-use Rattle.write_file.proofs.copy_to.Reads as copy-to-reads
+use Rattle.field_texts.proofs.copy_to.Reads as copy-to-reads
 use Rattle.write_file.proofs.put_end.Reads as put-end-reads
 
 mul-start : tie.Need-mul-start

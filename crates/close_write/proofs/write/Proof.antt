@@ -13,7 +13,7 @@ use Rattle.close_write.proofs.write.Tie as tie
 use Rattle.close_write.proofs.write.Reads as reads
 use Rattle.close_write.proofs.write.Lts as lts
 use Rattle.close_write.proofs.put_assignment.Reads as put-assignment-reads
-use Rattle.write_file.proofs.copy_to.Reads as copy-to-reads
+use Rattle.field_texts.proofs.copy_to.Reads as copy-to-reads
 use Rattle.write_file.proofs.put_end.Reads as put-end-reads
 use Rattle.figures.proofs.totals.AssignmentTotals.with_record.Reads as with-record-reads
 use Rattle.run_figures.proofs.figures_at.Reads as figures-at-reads

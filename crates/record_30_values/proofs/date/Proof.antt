@@ -1,16 +1,9 @@
 -- Field 6: no digits and no date end the stage; a date leaves the row of its time, and the date read is the one brought.
 -- Assumes nothing.
-use Prim.Native.Nat.{ℕ, _<_}
-use mathlib.Core.Path.{_≡_, ap, sym, _∙_}
-use mathlib.Core.List.{List}
-use mathlib.Core.Bool.{true}
-use native.Mathlib.Omega.{arith}
-use lib.ListN.{length}
-use Rattle.fields.specs.Bytes.{every, isDigit, part}
+use mathlib.Core.Path.{ap, sym, _∙_}
+use Rattle.fields.specs.Bytes.{part}
 use Rattle.fields.specs.Numbers.{value}
-use Rattle.fields.proofs.Values.{number-yes}
-use Rattle.fields.proofs.Width.{below-at}
-use Rattle.record_30_values.proofs.Days.{pairs-pass, pairs-fail}
+use Rattle.record_30_values.proofs.Days.{six-digits, pairs-pass, pairs-fail}
 use borrow.Author.Needs.{needs}
 use Rattle.dates.specs.Windows.{inTime}
 use Rattle.dates.specs.declared.Date.{Date}
@@ -21,9 +14,6 @@ use Rattle.rules.specs.Payments.{isDay, theDate}
 use Rattle.layout.proofs.Laws.{fault-not-sound}
 use Rattle.record_30_values.proofs.date.Statement.{statement}
 use Rattle.record_30_values.proofs.date.Tie as tie
-
-six-digits : (r : List ℕ) → length r ≡ 81 → every isDigit (part 16 21 r) ≡ true → value (part 16 21 r) < 1000000
-six-digits r h e = below-at 16 21 r _ (omega arith) (number-yes (part 16 21 r) e)
 
 pairs-at-requires : tie.Need-pairs-at-requires
 pairs-at-requires c κs = search needs

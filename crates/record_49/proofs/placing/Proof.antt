@@ -19,7 +19,8 @@ use Rattle.record_49.proofs.placing.Reads as reads
 use Rattle.record_49.proofs.placing.Lts as lts
 use Rattle.layout.proofs.Finding.demand.Reads as demand-reads
 use Rattle.record_49.proofs.is_taken.Reads as is-taken-reads
-use Rattle.record_49.proofs.number_up_to.Reads as number-up-to-reads
+use Rattle.record_49.proofs.column_in.Reads as column-in-reads
+use Rattle.record_49.proofs.line_in.Reads as line-in-reads
 use Rattle.record_49.proofs.unplaced.Reads as unplaced-reads
 use Rattle.record_49.proofs.with_place.Reads as with-place-reads
 
@@ -27,15 +28,15 @@ use Rattle.record_49.proofs.with_place.Reads as with-place-reads
 line-read : (p : tie.After-known-told)
     → let s = part 17 19 (p .before .before .before .before .before .args .r .now) in
     (isUpTo 21 s ≡ true) × ((value s ≡ p .before .line .given .0 .0) × (p .before .line .given .0 .0 ≤ 21))
-line-read p = bounds-pass 21 _ _ (sym (p .before .before .before .number-up-to .ensures) ∙ p .before .line .given .1)
+line-read p = bounds-pass 21 _ _ (sym (p .before .before .before .line-in .ensures) ∙ p .before .line .given .1)
 
 column-read : (p : tie.After-known-told2)
     → let s = part 20 20 (p .before .before .before .before .before .before .before .before .before .args .r .now) in
     (isUpTo 2 s ≡ true) × ((value s ≡ p .before .column .given .0 .0) × (p .before .column .given .0 .0 ≤ 2))
-column-read p = bounds-pass 2 _ _ (sym (p .before .before .before .number-up-to2 .ensures) ∙ p .before .column .given .1)
+column-read p = bounds-pass 2 _ _ (sym (p .before .before .before .column-in .ensures) ∙ p .before .column .given .1)
 
-number-up-to-requires : tie.Need-number-up-to-requires
-number-up-to-requires c κs = search needs
+line-in-requires : tie.Need-line-in-requires
+line-in-requires c κs = search needs
 
 enum-known-line : tie.Need-enum-known-line
 enum-known-line c = search needs
@@ -50,12 +51,12 @@ returns : tie.Need-returns
 returns c =
     let e = c .unplaced .ensures in
     record {
-      finding = λ f ks. e ∙ sym (stop f ks _ _ _ (sym (line-test _) ∙ bounds-fail 21 _ (sym (c .before .before .before .number-up-to .ensures) ∙ c .before .enum-told .given .1)));
+      finding = λ f ks. e ∙ sym (stop f ks _ _ _ (sym (line-test _) ∙ bounds-fail 21 _ (sym (c .before .before .before .line-in .ensures) ∙ c .before .enum-told .given .1)));
       places = λ s. absurd (no-value e s);
     }
 
-number-up-to-requires-2 : tie.Need-number-up-to-requires-2
-number-up-to-requires-2 c κs = search needs
+column-in-requires : tie.Need-column-in-requires
+column-in-requires c κs = search needs
 
 enum-known-column : tie.Need-enum-known-column
 enum-known-column c = search needs
@@ -75,7 +76,7 @@ returns-2 c =
           e
           ∙ sym
           (next f ks _ _ _ (sym (line-test _) ∙ line .0)
-          ∙ stop f ks _ _ _ (sym (column-test _) ∙ bounds-fail 2 _ (sym (c .before .before .before .number-up-to2 .ensures) ∙ c .before .enum-told2 .given .1)));
+          ∙ stop f ks _ _ _ (sym (column-test _) ∙ bounds-fail 2 _ (sym (c .before .before .before .column-in .ensures) ∙ c .before .enum-told2 .given .1)));
       places = λ s. absurd (no-value e s);
     }
 
@@ -116,12 +117,12 @@ pub placing-spec : {M : Type 1} → statement M
 placing-spec =
     tie.close
     (tie.spec
-    number-up-to-requires
+    line-in-requires
     enum-known-line
     enum-told
     unplaced-requires
     returns
-    number-up-to-requires-2
+    column-in-requires
     enum-known-column
     enum-told-2
     unplaced-requires-2

@@ -21,7 +21,7 @@ use Rattle.record_50.proofs.unspecified.Reads as unspecified-reads
 
 -- fields 1 to 6, and field 8
 abbrev front : Assignment → List ℕ → List Row
-front a r = head50 a r ++ kid50
+front a r = head50 a r ++ kid50 r
 
 abbrev last : List Row
 last = at 8 58 80 zeros ∷ []

@@ -6,7 +6,7 @@ use Rattle.tool_names.proofs.lengthened.Statement.{statement}
 use Rattle.tool_names.proofs.lengthened.Tie as tie
 use Rattle.tool_names.proofs.lengthened.Reads as reads
 use Rattle.tool_names.proofs.lengthened.Lts as lts
-use Rattle.write_file.proofs.copy_to.Reads as copy-to-reads
+use Rattle.field_texts.proofs.copy_to.Reads as copy-to-reads
 
 returns : tie.Need-returns
 returns c = ((omega arith, refl), no-room _ _ _ (omega arith))

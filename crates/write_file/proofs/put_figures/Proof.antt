@@ -1,16 +1,16 @@
 use Prim.Native.Nat.{ℕ, _+_}
 use mathlib.Core.Path.{_≡_, refl}
 use native.Mathlib.Omega.{arith}
-use Rattle.write_file.proofs.Wrote.{nothing, one-byte, one-number, one-number-told, done, figures-are}
-use Rattle.write_file.specs.Parts.{figureBytes}
+use Rattle.write_fields.proofs.Places.{nothing, one-byte, one-number, one-number-told, done}
+use Rattle.write_file.proofs.Ends.{figures-are}
 use borrow.Author.Needs.{needs}
 use Rattle.write_file.proofs.put_figures.Statement.{statement}
 use Rattle.write_file.proofs.put_figures.Tie as tie
 use Rattle.write_file.proofs.put_figures.Reads as reads
 use Rattle.write_file.proofs.put_figures.Lts as lts
 use Rattle.dates.proofs.ddmmyy_of.Reads as ddmmyy-of-reads
-use Rattle.write_file.proofs.put_byte.Reads as put-byte-reads
-use Rattle.write_file.proofs.put_digits.Reads as put-digits-reads
+use Rattle.write_fields.proofs.put_byte.Reads as put-byte-reads
+use Rattle.write_fields.proofs.put_digits.Reads as put-digits-reads
 
 cast-put-digits : tie.Need-cast-put-digits
 cast-put-digits c = search needs
@@ -67,13 +67,12 @@ returns c =
     let p1 = p2 .before .before .before .before .before in
     let s = p1 .before .before .before .before .before .before .before .before in
     let t = s .args .t in
-    let w1 = one-number 0 8 (t .transactions .0) (nothing (s .args .out .now)) (omega arith) (p1 .put-digits .ensures) in
-    let w2 = one-number 8 8 (t .records .0) w1 (omega arith) (p2 .put-digits2 .ensures) in
-    let w3 = one-number 16 17 (t .sum .0) w2 (omega arith) (p3 .put-digits3 .ensures) in
-    let w4 = one-number-told 33 6 (p4 .before .ddmmyy-of .ensures) w3 (omega arith) (p4 .put-digits4 .ensures) in
-    let w5 = one-number-told 39 6 (p5 .before .ddmmyy-of2 .ensures) w4 (omega arith) (p5 .put-digits5 .ensures) in
-    let w6 = one-number 45 27 0 w5 (omega arith) (p6 .put-digits6 .ensures) in
-    done 73 (figureBytes t (s .args .last)) (figures-are t (s .args .last)) (one-byte 72 10 w6 (omega arith) (p7 .put-byte .ensures))
+    let w2 = one-number _ _ (one-number _ _ (nothing (s .args .out .now)) (p1 .put-digits .ensures)) (p2 .put-digits2 .ensures) in
+    let w3 = one-number _ _ w2 (p3 .put-digits3 .ensures) in
+    let w4 = one-number-told _ (p4 .before .ddmmyy-of .ensures) w3 (p4 .put-digits4 .ensures) in
+    let w5 = one-number-told _ (p5 .before .ddmmyy-of2 .ensures) w4 (p5 .put-digits5 .ensures) in
+    let w6 = one-number _ _ w5 (p6 .put-digits6 .ensures) in
+    done _ (figures-are t (s .args .last)) (one-byte _ w6 (p7 .put-byte .ensures))
 
 pub put-figures-spec : {M : Type 1} → statement M
 put-figures-spec =

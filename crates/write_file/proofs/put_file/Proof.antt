@@ -1,11 +1,11 @@
 -- Assumes nothing.
-use Rattle.write_file.proofs.Wrote.{file-put}
+use Rattle.write_file.proofs.Ends.{file-put}
 use borrow.Author.Needs.{needs}
 use Rattle.write_file.proofs.put_file.Statement.{statement}
 use Rattle.write_file.proofs.put_file.Tie as tie
 use Rattle.write_file.proofs.put_file.Reads as reads
 use Rattle.write_file.proofs.put_file.Lts as lts
-use Rattle.write_file.proofs.copy_to.Reads as copy-to-reads
+use Rattle.field_texts.proofs.copy_to.Reads as copy-to-reads
 use Rattle.write_file.proofs.put_end.Reads as put-end-reads
 
 add-to : tie.Need-add-to

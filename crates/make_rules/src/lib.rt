@@ -1,0 +1,184 @@
+// The own rules of a record that was made: the rows of its table that look at the record alone, each by the code that checking has for it.
+
+ghost use mathlib.Core.Path.{_≡_};
+ghost use mathlib.Core.List.{List};
+ghost use Prim.Native.Nat.{ℕ};
+ghost use lib.ListN.{length};
+ghost use Rattle.limits.specs.Limits.{recordBytes};
+ghost use Rattle.layout.specs.Rows.{firstFault};
+ghost use Rattle.rules.specs.Alone.{ownTable};
+ghost use Rattle.make_rules.specs.Pieces.{serviced, numbered, headed, keyed, dated, priced, message, specified};
+use dates::Day;
+use field_bytes::classes::Class;
+use field_digits::DigitPairs;
+use field_digits::Digits;
+use figures::totals::Totals;
+use layout::Finding;
+use record_49::Bounded;
+use rules::Kind;
+
+// Fields 1 and 2: NY, and one of the two services.
+fn service(r: &[u8]) -> Finding
+    requires { ⌜ length (now r) ≡ recordBytes ⌝ }
+    ensures { λ x. ⌜ ((f : Totals) (ks : List ℕ) → x ≡ firstFault f ks (now (r .entry)) serviced) ⌝ }
+{
+    let one = fields::same_at(r, 3, 4, b"01") | fields::same_at(r, 3, 4, b"04");
+    Finding::Sound
+        .demand(fields::same_at(r, 1, 2, b"NY"), 7, 1)
+        .demand(one, 7, 2)
+}
+
+// Fields 1 to 5 of 30, 31, 40 and 49: a service, a type of that service, a transaction number.
+fn heading(r: &[u8]) -> Finding
+    requires { ⌜ length (now r) ≡ recordBytes ⌝ }
+    ensures { λ x. ⌜ ((f : Totals) (ks : List ℕ) → x ≡ firstFault f ks (now (r .entry)) (headed (now (r .entry)))) ⌝ }
+{
+    let listed = record_30_fields::listed(fields::code_at(r, 3), fields::code_at(r, 5));
+    service(r).demand(listed, 7, 3).or_else(number(r))
+}
+
+// Field 5, a transaction number of any size.
+fn number(r: &[u8]) -> Finding
+    requires { ⌜ length (now r) ≡ recordBytes ⌝ }
+    ensures { λ x. ⌜ ((f : Totals) (ks : List ℕ) → x ≡ firstFault f ks (now (r .entry)) numbered) ⌝ }
+{
+    let Digits::Number(_number) = fields::number_at(r, 9, 15) else {
+        return Finding::Fault(8, 5);
+    };
+    Finding::Sound
+}
+
+// Fields 5 and 6 of a 20.
+fn key(r: &[u8]) -> Finding
+    requires { ⌜ length (now r) ≡ recordBytes ⌝ }
+    ensures { λ x. ⌜ ((f : Totals) (ks : List ℕ) → x ≡ firstFault f ks (now (r .entry)) keyed) ⌝ }
+{
+    let Digits::Number(_agreement) = fields::number_at(r, 9, 17) else {
+        return Finding::Fault(8, 5);
+    };
+    let Digits::Number(_assignment) = fields::number_at(r, 18, 24) else {
+        return Finding::Fault(8, 6);
+    };
+    Finding::Sound
+}
+
+// Field 6 of a 30, a date.
+fn date(r: &[u8]) -> Finding
+    requires { ⌜ length (now r) ≡ recordBytes ⌝ }
+    ensures { λ x. ⌜ ((f : Totals) (ks : List ℕ) → x ≡ firstFault f ks (now (r .entry)) dated) ⌝ }
+{
+    let DigitPairs::Pairs(pairs) = fields::pairs_at(r, 16) else {
+        return Finding::Fault(8, 6);
+    };
+    let Day::On(_date) = record_30_values::day_in(pairs) else {
+        return Finding::Fault(9, 6);
+    };
+    Finding::Sound
+}
+
+// Field 8 of a 30, within its type's own limit.
+fn amount(r: &[u8]) -> Finding
+    requires { ⌜ length (now r) ≡ recordBytes ⌝ }
+    ensures { λ x. ⌜ ((f : Totals) (ks : List ℕ) → x ≡ firstFault f ks (now (r .entry)) (priced (now (r .entry)))) ⌝ }
+{
+    let Digits::Number(n) = fields::number_at(r, 33, 49) else {
+        return Finding::Fault(8, 8);
+    };
+    Finding::Sound.demand(
+        record_30_values::keeps_own_limit(fields::code_at(r, 5), n),
+        13,
+        8,
+    )
+}
+
+// Fields 6 to 10 of a 49. A line or column that is no such number gives 7, never 8.
+fn message(r: &[u8]) -> Finding
+    requires { ⌜ length (now r) ≡ recordBytes ⌝ }
+    ensures { λ x. ⌜ ((f : Totals) (ks : List ℕ) → x ≡ firstFault f ks (now (r .entry)) message) ⌝ }
+{
+    if !fields::same_at(r, 16, 16, b"3") {
+        return Finding::Fault(7, 6);
+    }
+    let Bounded::InBounds(_line) = record_49::line_in(r) else {
+        return Finding::Fault(7, 7);
+    };
+    let Bounded::InBounds(_column) = record_49::column_in(r) else {
+        return Finding::Fault(7, 8);
+    };
+    Finding::Sound
+        .demand(fields::all_at(Class::Text, r, 21, 60), 8, 9)
+        .demand(fields::zeros_from(r, 61), 7, 10)
+}
+
+// Fields 7 and 8 of a 50.
+fn specifying(r: &[u8]) -> Finding
+    requires { ⌜ length (now r) ≡ recordBytes ⌝ }
+    ensures { λ x. ⌜ ((f : Totals) (ks : List ℕ) → x ≡ firstFault f ks (now (r .entry)) specified) ⌝ }
+{
+    let Digits::Number(_amount) = fields::number_at(r, 41, 57) else {
+        return Finding::Fault(8, 7);
+    };
+    Finding::Sound.demand(fields::zeros_from(r, 58), 7, 8)
+}
+
+// A 10 asks nothing of other records.
+pub fn own10(r: &[u8]) -> Finding
+    requires { ⌜ length (now r) ≡ recordBytes ⌝ }
+    ensures { λ x. ⌜ ((f : Totals) (ks : List ℕ) → x ≡ firstFault f ks (now (r .entry)) (ownTable Kind.R10 (now (r .entry)))) ⌝ }
+{
+    record_10_20::check10(r)
+}
+
+pub fn own20(r: &[u8]) -> Finding
+    requires { ⌜ length (now r) ≡ recordBytes ⌝ }
+    ensures { λ x. ⌜ ((f : Totals) (ks : List ℕ) → x ≡ firstFault f ks (now (r .entry)) (ownTable Kind.R20 (now (r .entry)))) ⌝ }
+{
+    record_10_20::head(r)
+        .or_else(key(r))
+        .or_else(record_10_20::tail(r))
+}
+
+pub fn own30(r: &[u8]) -> Finding
+    requires { ⌜ length (now r) ≡ recordBytes ⌝ }
+    ensures { λ x. ⌜ ((f : Totals) (ks : List ℕ) → x ≡ firstFault f ks (now (r .entry)) (ownTable Kind.R30 (now (r .entry)))) ⌝ }
+{
+    let service = fields::code_at(r, 3);
+    heading(r)
+        .or_else(date(r))
+        .or_else(record_30_fields::party(r, service))
+        .or_else(amount(r))
+        .or_else(record_30::tail(r, service))
+}
+
+pub fn own31(r: &[u8]) -> Finding
+    requires { ⌜ length (now r) ≡ recordBytes ⌝ }
+    ensures { λ x. ⌜ ((f : Totals) (ks : List ℕ) → x ≡ firstFault f ks (now (r .entry)) (ownTable Kind.R31 (now (r .entry)))) ⌝ }
+{
+    heading(r).or_else(record_31_40::texts(r))
+}
+
+pub fn own40(r: &[u8]) -> Finding
+    requires { ⌜ length (now r) ≡ recordBytes ⌝ }
+    ensures { λ x. ⌜ ((f : Totals) (ks : List ℕ) → x ≡ firstFault f ks (now (r .entry)) (ownTable Kind.R40 (now (r .entry)))) ⌝ }
+{
+    heading(r).or_else(record_31_40::address(r))
+}
+
+pub fn own49(r: &[u8]) -> Finding
+    requires { ⌜ length (now r) ≡ recordBytes ⌝ }
+    ensures { λ x. ⌜ ((f : Totals) (ks : List ℕ) → x ≡ firstFault f ks (now (r .entry)) (ownTable Kind.R49 (now (r .entry)))) ⌝ }
+{
+    heading(r).or_else(message(r))
+}
+
+pub fn own50(r: &[u8]) -> Finding
+    requires { ⌜ length (now r) ≡ recordBytes ⌝ }
+    ensures { λ x. ⌜ ((f : Totals) (ks : List ℕ) → x ≡ firstFault f ks (now (r .entry)) (ownTable Kind.R50 (now (r .entry)))) ⌝ }
+{
+    let listed = fields::same_at(r, 5, 6, b"16") | fields::same_at(r, 5, 6, b"17");
+    service(r)
+        .demand(listed, 7, 3)
+        .or_else(number(r))
+        .demand(record_50::kid_sound(r), 8, 6)
+        .or_else(specifying(r))
+}

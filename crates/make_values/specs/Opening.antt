@@ -1,0 +1,15 @@
+-- Document 02, No. 1: what the records of a transaction begin with, fields 1 to 5, as the code puts it.
+-- Assumes nothing.
+use Prim.Native.Nat.{ℕ}
+use mathlib.Core.List.{List, [], _∷_, _++_}
+use Rattle.fields.specs.Numbers.{written}
+use Rattle.layout.specs.declared.Finding.{Finding}
+use Rattle.operations.specs.Making.{number, tooLong}
+use Rattle.write_fields.specs.Parts.{headBytes}
+
+-- 22 at the first of service, type and number that is too long
+unfoldable pub openingLong : ℕ → ℕ → ℕ → Finding
+openingLong service type n = tooLong (number 2 2 service ∷ number 3 2 type ∷ number 5 7 n ∷ [])
+
+unfoldable pub openingBytes : ℕ → ℕ → ℕ → ℕ → List ℕ
+openingBytes service type kind n = headBytes service type kind ++ written 7 n
