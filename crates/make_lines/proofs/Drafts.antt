@@ -5,18 +5,22 @@ use mathlib.Core.Path.{_≡_, refl, sym, ap, ap₂, subst, _∙_}
 use mathlib.Core.List.{List, [], _∷_, _++_, append-nil, append-assoc}
 use mathlib.Core.Bool.{Bool, true, false}
 use native.Mathlib.Omega.{arith}
+use borrow.Author.Tests.{eq-eqb, ne-eqb, le-leb, lt-leb}
 use borrow.Rule.Slice.PartMut.{putMid}
 use lib.ListN.{length, take, drop, length-append, length-drop, take-append-drop, drop-of-length-le}
 use Rattle.choice.specs.Choice.{if_then_else_}
 use Rattle.fields.specs.Bytes.{every}
+use Rattle.layout.specs.declared.Finding.{Finding}
+use Rattle.layout.specs.declared.Finding.the-variants.{Sound, Fault}
 use Rattle.limits.specs.Limits.{recordBytes}
+use Rattle.rules.specs.declared.Refusal.{Refusal}
 use Rattle.operations.specs.Making.{lentRecord}
 use Rattle.operations.specs.declared.Making.{Making}
 use Rattle.operations.specs.declared.Making.the-variants.{Made, NotMade}
 use Rattle.field_texts.proofs.Wrote.{Wrote, wrote-none, wrote-length, tail-part, behind}
 use Rattle.make_lines.specs.Lines.{before, withoutReturn, linesOf, passedOver, borne, bearing, over}
 use Rattle.make_lines.specs.Lines as Lines
-use Rattle.make_lines.specs.Draft.{lineMaking, lineRecord, notDrafted, onMade, takenBy, lineTaken, takenBytes, draftFrom, recordsOn, recordsFrom}
+use Rattle.make_lines.specs.Draft.{lineMaking, lineRecord, notDrafted, onMade, takenBy, lineTaken, takenBytes, draftFrom, recordsOn, recordsFrom, LinesPromise, enough, onEnough, bytesOn, draftOf, draftBytes, DraftPromise}
 use Rattle.make_lines.specs.declared.Taken.{Taken}
 use Rattle.make_lines.specs.declared.Taken.the-variants.{Added, Stopped}
 use Rattle.make_lines.specs.declared.Drafting.{Drafting}
@@ -135,16 +139,18 @@ going-start v d =
 pub going-long : (v d out : List ℕ) (at i n : ℕ) → Going v d out at i n → (length out ≡ length d) × (recordBytes * n ≤ length d)
 going-long v d out at i n g = (wrote-length (g .made) d out (g .wrote), omega (arith, g .size, g .wrote .room))
 
--- the answer, and the output afterwards
-pub record Ended (v d : List ℕ) (answer : Drafting) (after : List ℕ) : Type 0 where
-  pub answers : answer ≡ draftFrom (length d) 0 0 (linesOf v)
-  pub leaves : after ≡ recordsFrom (length d) (linesOf v) ++ drop (length (recordsFrom (length d) (linesOf v))) d
+pub going-room : (v d out : List ℕ) (at i n : ℕ) → Going v d out at i n → recordBytes * n ≤ length out
+going-room v d out at i n g = let x = going-long v d out at i n g in omega (arith, x .0, x .1)
+
+-- a refusal, as it is told
+pub refused-told : (v d : List ℕ) {after : List ℕ} (x y : Refusal) → x ≡ y → LinesPromise v d (NotDrafted y) after → LinesPromise v d (NotDrafted x) after
+refused-told v d {after} x y e p = subst (λ (z : Refusal). LinesPromise v d (NotDrafted z) after) (sym e) p
 
 written-all : (v d out made : List ℕ) → Wrote made d out → recordsFrom (length d) (linesOf v) ≡ made
     → out ≡ recordsFrom (length d) (linesOf v) ++ drop (length (recordsFrom (length d) (linesOf v))) d
 written-all v d out made w e = w .is ∙ ap (λ (x : List ℕ). x ++ drop (length x) d) (sym e)
 
-pub going-end : (v d out : List ℕ) (at i n : ℕ) → Going v d out at i n → length v ≤ at → Ended v d (Drafted n) out
+pub going-end : (v d out : List ℕ) (at i n : ℕ) → Going v d out at i n → length v ≤ at → LinesPromise v d (Drafted n) out
 going-end v d out at i n g h =
     let z : drop at v ≡ [] = drop-of-length-le v h in
     let room = length d - recordBytes * n in
@@ -215,12 +221,12 @@ module _ (v d out : List ℕ) (at i n : ℕ) (g : Going v d out at i n) (e : ℕ
 
   -- the line is refused
   pub going-stop : (x y : ℕ) → Stopped x y ≡ lineTaken l (length (take (length out - recordBytes * n) (drop (recordBytes * n) out)))
-      → Ended v d (notDrafted x (i + 1) y) (putMid (recordBytes * n) (length out - recordBytes * n) out last)
+      → LinesPromise v d (notDrafted x (i + 1) y) (putMid (recordBytes * n) (length out - recordBytes * n) out last)
   unfolding lentRecord
   going-stop x y r = go (passedOver l) (lineMaking l (length d - recordBytes * n)) refl refl
     where
       go : (p : Bool) (m : Making) → passedOver l ≡ p → lineMaking l (length d - recordBytes * n) ≡ m
-          → Ended v d (notDrafted x (i + 1) y) (putMid (recordBytes * n) (length out - recordBytes * n) out last)
+          → LinesPromise v d (notDrafted x (i + 1) y) (putMid (recordBytes * n) (length out - recordBytes * n) out last)
       go true m s t = absurd (never x y 0 (taken-by (Stopped x y) true m s t r))
       go false Made s t = absurd (never x y 1 (taken-by (Stopped x y) false Made s t r))
       go false (NotMade z) s t =
@@ -282,3 +288,43 @@ module _ (v d out : List ℕ) (at i n : ℕ) (g : Going v d out at i n) (e : ℕ
                 ∙ ap₂ (λ (x y : ℕ). (g .made ++ lineRecord l) ++ recordsFrom x (linesOf (drop y v))) zr (sym o);
           }
       go false (NotMade z) s t = absurd (never (z .number) (z .field) k (sym (taken-by (Added k) false (NotMade z) s t r)))
+
+-- a line adds one record at most
+pub added-few : (l : List ℕ) (room k : ℕ) → Added k ≡ lineTaken l room → k ≤ 1
+unfolding lineTaken
+added-few l room k h = go (passedOver l) (lineMaking l room) h
+  where
+    go : (p : Bool) (m : Making) → Added k ≡ (if p then Added 0 else takenBy m) → k ≤ 1
+    go true m e = let z : k ≡ 0 = cc in omega arith
+    go false Made e = let z : k ≡ 1 = cc in omega arith
+    go false (NotMade x) e = absurd (never (x .number) (x .field) k (sym e))
+
+-- ---- how many records there are, and then the lines
+pub enough-none : (n : ℕ) → n ≡ 0 → Fault 2 0 ≡ enough n
+unfolding enough
+enough-none n h = sym (simp (eq-eqb n 0 h))
+
+pub enough-some : (n : ℕ) → (n ≡ 0 → ⊥) → n ≤ 199998 → Sound ≡ enough n
+unfolding enough
+enough-some n h l = sym (simp (ne-eqb n 0 h, le-leb n 199998 l))
+
+pub enough-more : (n : ℕ) → (n ≡ 0 → ⊥) → 199998 < n → Fault 3 0 ≡ enough n
+unfolding enough
+enough-more n h l = sym (simp (ne-eqb n 0 h, lt-leb n 199998 l))
+
+module _ (v out : List ℕ) where
+  pub draft-refused : (n j : ℕ) → enough (bearing (linesOf v)) ≡ Fault n j → DraftPromise v out (notDrafted n 0 j) out
+  unfolding draftOf draftBytes
+  draft-refused n j h =
+      record {
+        answers = sym (ap (λ (x : Finding). onEnough x (draftFrom (length out) 0 0 (linesOf v))) h);
+        leaves = sym (ap (λ (x : Finding). bytesOn x (recordsFrom (length out) (linesOf v)) ++ drop (length (bytesOn x (recordsFrom (length out) (linesOf v)))) out) h);
+      }
+
+  pub draft-made : {answer : Drafting} {after : List ℕ} → enough (bearing (linesOf v)) ≡ Sound → LinesPromise v out answer after → DraftPromise v out answer after
+  unfolding draftOf draftBytes
+  draft-made h p =
+      record {
+        answers = p .answers ∙ sym (ap (λ (x : Finding). onEnough x (draftFrom (length out) 0 0 (linesOf v))) h);
+        leaves = p .leaves ∙ sym (ap (λ (x : Finding). bytesOn x (recordsFrom (length out) (linesOf v)) ++ drop (length (bytesOn x (recordsFrom (length out) (linesOf v)))) out) h);
+      }

@@ -175,6 +175,11 @@ recordsFrom room (l ∷ ls) =
     if passedOver l then recordsFrom room ls
     else recordsOn (lineMaking l room) (lineRecord l) (recordsFrom (room - recordBytes) ls)
 
+-- the answer for the lines in turn, and the whole output afterwards
+pub record LinesPromise (v out : List ℕ) (answer : Drafting) (after : List ℕ) : Type 0 where
+  pub answers : answer ≡ draftFrom (length out) 0 0 (linesOf v)
+  pub leaves : after ≡ recordsFrom (length out) (linesOf v) ++ drop (length (recordsFrom (length out) (linesOf v))) out
+
 -- a draft has at least an 88 and an 89 less than its file
 abbrev pub mostDrafted : ℕ
 mostDrafted = mostRecords - 2

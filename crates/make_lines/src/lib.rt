@@ -1,10 +1,9 @@
 // Lines of values as a spreadsheet exports them, and the draft that they make.
 
 ghost use mathlib.Core.Path.{_≡_};
-ghost use mathlib.Core.List.{_++_};
-ghost use lib.ListN.{length, drop};
+ghost use lib.ListN.{length};
 ghost use Rattle.make_lines.specs.Lines.{linesOf, bearing, borne};
-ghost use Rattle.make_lines.specs.Draft.{lineTaken, takenBytes, draftFrom, recordsFrom, enough, DraftPromise};
+ghost use Rattle.make_lines.specs.Draft.{lineTaken, takenBytes, LinesPromise, enough, DraftPromise};
 use crate::lines::find;
 use crate::lines::is_passed_over;
 use crate::lines::past;
@@ -84,7 +83,7 @@ fn take_line(line: &[u8], out: &mut [u8]) -> Taken
 
 // The lines in turn, up to the first that is refused: each record behind the one before it.
 fn take_lines(values: &[u8], out: &mut [u8]) -> Drafting
-    ensures { λ x. ⌜ (x ≡ draftFrom (length (now (out .entry))) 0 0 (linesOf (now (values .entry)))) × (now (out .exit) ≡ recordsFrom (length (now (out .entry))) (linesOf (now (values .entry))) ++ drop (length (recordsFrom (length (now (out .entry))) (linesOf (now (values .entry))))) (now (out .entry))) ⌝ }
+    ensures { λ x. ⌜ LinesPromise (now (values .entry)) (now (out .entry)) x (now (out .exit)) ⌝ }
 {
     let mut at: usize = 0;
     let mut line: u64 = 0;

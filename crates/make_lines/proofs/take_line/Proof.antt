@@ -1,3 +1,6 @@
+use mathlib.Core.Path.{_≡_, refl, sym, ap, _∙_}
+use Rattle.make_lines.specs.Draft.{takenBy}
+use Rattle.make_lines.proofs.Drafts.{taken-passed, taken-else, bytes-passed, bytes-else}
 use borrow.Author.Needs.{needs}
 use Rattle.make_lines.proofs.take_line.Statement.{statement}
 use Rattle.make_lines.proofs.take_line.Tie as tie
@@ -10,7 +13,9 @@ is-passed-over-requires : tie.Need-is-passed-over-requires
 is-passed-over-requires c κs = search needs
 
 returns : tie.Need-returns
-returns c = ?
+returns c =
+    let p = sym (c .before .is-passed-over .ensures) ∙ c .if1 .taken in
+    (taken-passed _ _ p, bytes-passed _ _ p)
 
 make-line-requires : tie.Need-make-line-requires
 make-line-requires c κs = search needs
@@ -25,13 +30,19 @@ same-length : tie.Need-same-length
 same-length c = search needs
 
 returns-2 : tie.Need-returns-2
-returns-2 c = ?
+returns-2 c =
+    let p = sym (c .before .before .before .before .before .before .before .is-passed-over .ensures) ∙ c .before .before .before .before .before .before .if1 .left in
+    let m = c .before .before .before .before .make-line .ensures in
+    (sym (ap takenBy (c .enum-told .given .1)) ∙ taken-else _ _ _ p (m .answers), bytes-else _ _ _ p (m .leaves))
 
 same-length-2 : tie.Need-same-length-2
 same-length-2 c = search needs
 
 returns-3 : tie.Need-returns-3
-returns-3 c = ?
+returns-3 c =
+    let p = sym (c .before .before .before .before .before .before .before .before .is-passed-over .ensures) ∙ c .before .before .before .before .before .before .before .if1 .left in
+    let m = c .before .before .before .before .before .make-line .ensures in
+    (sym (ap takenBy (c .before .making .given .1)) ∙ taken-else _ _ _ p (m .answers), bytes-else _ _ _ p (m .leaves))
 
 pub take-line-spec : {M : Type 1} → statement M
 take-line-spec =

@@ -17,7 +17,7 @@ number-at-requires-2 : tie.Need-number-at-requires-2
 number-at-requires-2 c κs = search needs
 
 make10-requires : tie.Need-make10-requires
-make10-requires c κs = ?
+make10-requires c κs = search needs
 
 same-length : tie.Need-same-length
 same-length c = search needs

@@ -23,7 +23,7 @@ number-at-requires-4 : tie.Need-number-at-requires-4
 number-at-requires-4 c κs = search needs
 
 make20-requires : tie.Need-make20-requires
-make20-requires c κs = ?
+make20-requires c κs = search needs
 
 same-length : tie.Need-same-length
 same-length c = search needs

@@ -33,7 +33,7 @@ value-at-requires-2 : tie.Need-value-at-requires-2
 value-at-requires-2 c κs = search needs
 
 make30-requires : tie.Need-make30-requires
-make30-requires c κs = ?
+make30-requires c κs = search needs
 
 same-length : tie.Need-same-length
 same-length c = search needs

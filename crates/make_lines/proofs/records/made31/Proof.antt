@@ -30,7 +30,7 @@ value-at-requires-3 : tie.Need-value-at-requires-3
 value-at-requires-3 c κs = search needs
 
 make31-requires : tie.Need-make31-requires
-make31-requires c κs = ?
+make31-requires c κs = search needs
 
 same-length : tie.Need-same-length
 same-length c = search needs

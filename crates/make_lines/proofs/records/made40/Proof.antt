@@ -33,7 +33,7 @@ value-at-requires-4 : tie.Need-value-at-requires-4
 value-at-requires-4 c κs = search needs
 
 make40-requires : tie.Need-make40-requires
-make40-requires c κs = ?
+make40-requires c κs = search needs
 
 same-length : tie.Need-same-length
 same-length c = search needs

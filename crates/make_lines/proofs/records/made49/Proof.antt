@@ -30,7 +30,7 @@ value-at-requires : tie.Need-value-at-requires
 value-at-requires c κs = search needs
 
 make49-requires : tie.Need-make49-requires
-make49-requires c κs = ?
+make49-requires c κs = search needs
 
 same-length : tie.Need-same-length
 same-length c = search needs

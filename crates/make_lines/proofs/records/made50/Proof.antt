@@ -27,7 +27,7 @@ number-at-requires-4 : tie.Need-number-at-requires-4
 number-at-requires-4 c κs = search needs
 
 make50-requires : tie.Need-make50-requires
-make50-requires c κs = ?
+make50-requires c κs = search needs
 
 same-length : tie.Need-same-length
 same-length c = search needs

@@ -1,3 +1,7 @@
+use Rattle.operations.specs.declared.Making.{Making}
+use Rattle.operations.specs.declared.Making.the-variants.{NotMade}
+use Rattle.make_lines.specs.Draft.{LinePromise}
+use mathlib.Core.Path.{subst}
 use mathlib.Core.Path.{_≡_, refl, sym, ap, _∙_}
 use Rattle.make_lines.proofs.Made.{sound-given, line-refused, line-made}
 use borrow.Author.Needs.{needs}
@@ -26,16 +30,23 @@ enum-told : tie.Need-enum-told
 enum-told c = search needs
 
 made-kind-requires : tie.Need-made-kind-requires
-made-kind-requires c κs = ?
+made-kind-requires c κs = sound-given _ _ (sym (c .before .before .before .fault-in .ensures) ∙ c .before .enum-told .given .1)
 
 returns : tie.Need-returns
-returns c = ?
+returns c =
+    let a = c .before .before .before .before .before .before .before .before .args in
+    let f = c .before .before .found .given in
+    subst (λ (x : Making). LinePromise (a .line .now) (a .out .now) x (a .out .now)) (sym (ap NotMade (c .at .ensures)))
+    (line-refused (a .line .now) (a .out .now) _ (c .before .before .before .before .before .kind-in .ensures) (f .0 .0) (f .0 .1 .0) (sym (c .before .before .before .before .fault-in .ensures) ∙ f .1))
 
 same-length : tie.Need-same-length
 same-length c = search needs
 
 returns-2 : tie.Need-returns-2
-returns-2 c = ?
+returns-2 c =
+    let a = c .before .before .before .before .before .before .before .before .before .before .args in
+    line-made (a .line .now) (a .out .now) _ (c .before .before .before .before .before .before .before .kind-in .ensures)
+    (sym (c .before .before .before .before .before .before .fault-in .ensures) ∙ c .before .before .before .before .enum-told .given .1) (c .before .before .made-kind .ensures)
 
 pub make-line-spec : {M : Type 1} → statement M
 make-line-spec =
