@@ -4,3 +4,4 @@ pub mod Counting
 pub mod Caps
 pub mod Made
 pub mod Drafts
+pub mod Saved

@@ -65,7 +65,7 @@ pub fn kind_in(line: &[u8]) -> Kind
 }
 
 // How many values stand behind the record type.
-fn slots_in(kind: Kind) -> usize
+pub fn slots_in(kind: Kind) -> usize
     ensures { λ n. ⌜ n ≡ length (slotsOf kind) ⌝ }
 {
     match kind {
@@ -176,7 +176,7 @@ fn slot50(i: usize) -> Slot
     }
 }
 
-fn slot_at(kind: Kind, i: usize) -> Slot
+pub fn slot_at(kind: Kind, i: usize) -> Slot
     ensures { λ x. ⌜ x ≡ getD (slotsOf kind) i (Slot.Words 0) ⌝ }
 {
     match kind {
@@ -193,7 +193,7 @@ fn slot_at(kind: Kind, i: usize) -> Slot
     }
 }
 
-fn field_of(slot: Slot) -> u8
+pub fn field_of(slot: Slot) -> u8
     ensures { λ k. ⌜ k ≡ fieldOf slot ⌝ }
 {
     match slot {
