@@ -1,6 +1,6 @@
 -- The values of a line against what its record type asks for: how many there are, and which are numbers.
 -- Assumes nothing.
-use Prim.Native.Nat.{ℕ, zero, suc, _+_, _-_, _≤_, _<_, zero-le}
+use Prim.Native.Nat.{ℕ, suc, _+_, _-_, _≤_, _<_, zero-le}
 use mathlib.Core.Path.{_≡_, refl, sym, ap, ap₂, _∙_}
 use mathlib.Core.List.{List, [], _∷_}
 use mathlib.Core.Bool.{Bool, true, false, _&&_}
@@ -21,7 +21,7 @@ use Rattle.field_texts.proofs.Wrote.{tail-part}
 use Rattle.make_lines.specs.Lines.{before, behind, withFirst, between, valuesOf, isSemicolon, over}
 use Rattle.make_lines.specs.Draft.{fieldOf, allEmpty, counted, slotFound, numerals, givenIn}
 use Rattle.make_lines.specs.declared.slots.Slot.{Slot}
-use Rattle.make_lines.specs.declared.slots.Slot.the-variants.{Numeral, Words}
+use Rattle.make_lines.specs.declared.slots.Slot.the-variants.{Words}
 use Rattle.make_lines.proofs.Pieces.{between-found, between-none, pieces-next, piece-next, over-one}
 
 -- texts of two lengths are not the same

@@ -15,10 +15,10 @@ use Rattle.layout.specs.declared.Finding.the-variants.{Sound, Fault}
 use Rattle.limits.specs.Limits.{recordBytes}
 use Rattle.rules.specs.Alone.{ownTable}
 use Rattle.rules.specs.declared.Kind.{Kind}
-use Rattle.operations.specs.Making.{Put, recordFrom, tooLong, notMade, onSound, judged, makeOf, lentRecord, madeBytes}
+use Rattle.operations.specs.Making.{recordFrom, tooLong, notMade, onSound, judged, makeOf, lentRecord, madeBytes}
 use Rattle.operations.specs.Promises.{MakePromise}
 use Rattle.operations.specs.declared.Making.{Making}
-use Rattle.operations.specs.declared.Making.the-variants.{Made, NotMade}
+use Rattle.operations.specs.declared.Making.the-variants.{Made}
 use Rattle.make_lines.specs.Draft.{slotsFound, isGiven, faultIn, putsOf, kindIn, givenIn, lineMaking, lineRecord, LinePromise}
 
 -- a record type that is told, and one that is asked for

@@ -7,10 +7,10 @@ use mathlib.Core.Bool.{Bool, true, false}
 use native.Mathlib.Omega.{arith}
 use borrow.Author.Tests.{lt-ltb, le-ltb, ltb-true, ltb-false}
 use lib.Dec.{ltb}
-use lib.ListN.{length, getD, drop, drop-of-length-le}
+use lib.ListN.{length, getD, drop}
 use Rattle.choice.specs.Choice.{if_then_else_}
 use Rattle.fields.specs.Bytes.{every, isDigit}
-use Rattle.fields.specs.Numbers.{valueFrom, value}
+use Rattle.fields.specs.Numbers.{valueFrom}
 use Rattle.field_digits.proofs.Values.{value-next, value-end}
 use Rattle.make_lines.specs.Lines.{isNumeral, cap, capped}
 

@@ -1,7 +1,6 @@
 -- What lines of values make: a record for each line that bears one, up to the first that is refused.
 -- Assumes nothing.
 use Prim.Native.Nat.{ℕ, _+_, _-_}
-use Prim.Native.String.{String}
 use mathlib.Core.Path.{_≡_}
 use mathlib.Core.List.{List, [], _∷_, _++_}
 use mathlib.Core.Bool.{Bool, true, false}
@@ -17,7 +16,7 @@ use Rattle.layout.specs.declared.Finding.the-variants.{Sound, Fault}
 use Rattle.rules.specs.Refusals.{refusal}
 use Rattle.rules.specs.declared.Kind.{Kind}
 use Rattle.rules.specs.declared.Kind.the-variants.{R10, R20, R30, R31, R40, R49, R50, R88, R89, Other}
-use Rattle.operations.specs.Making.{Put, made10, made20, made30, made31, made40, made49, made50, recordFrom, notMade, onSound, makeOf, lentRecord}
+use Rattle.operations.specs.Making.{Put, made10, made20, made30, made31, made40, made49, made50, recordFrom, onSound, makeOf, lentRecord}
 use Rattle.operations.specs.declared.Making.{Making}
 use Rattle.operations.specs.declared.Making.the-variants.{Made, NotMade}
 use Rattle.make_lines.specs.Lines.{linesOf, valuesOf, passedOver, bearing, isNumeral}

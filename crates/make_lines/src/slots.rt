@@ -1,11 +1,8 @@
 // What the values of a line stand for, by its record type, and what is found in them before a record is made.
 
 ghost use mathlib.Core.Path.{_≡_};
-ghost use mathlib.Core.List.{[]};
-ghost use Prim.Native.Nat.{_≤_};
-ghost use lib.ListN.{length, getD, drop};
+ghost use lib.ListN.{length, getD};
 ghost use Rattle.fields.specs.Bytes.{same};
-ghost use Rattle.make_lines.specs.Lines.{valuesOf};
 ghost use Rattle.make_lines.specs.Draft.{typeGiven, slotsOf, fieldOf, slotFound, counted, numerals, slotsFound, isGiven, faultIn, kindIn, givenIn};
 use crate::lines::find;
 use crate::lines::is_numeral;

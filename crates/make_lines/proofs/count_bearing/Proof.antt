@@ -1,9 +1,9 @@
 use Prim.Native.Nat.{ℕ, _+_, _-_, _≤_}
-use mathlib.Core.Path.{_≡_, refl, sym, ap, _∙_}
+use mathlib.Core.Path.{_≡_, sym, ap, _∙_}
 use native.Mathlib.Omega.{arith}
 use lib.ListN.{length, drop}
 use borrow.Author.Needs.{needs}
-use Rattle.make_lines.specs.Lines.{linesOf, borne, bearing, over}
+use Rattle.make_lines.specs.Lines.{linesOf, borne, bearing}
 use Rattle.make_lines.proofs.Pieces.{piece-goes-on}
 use Rattle.make_lines.proofs.Drafts.{borne-most, bearing-step, bearing-end}
 use Rattle.make_lines.proofs.count_bearing.Statement.{statement}

@@ -1,4 +1,4 @@
-use mathlib.Core.Path.{_≡_, refl, sym, ap, subst, _∙_}
+use mathlib.Core.Path.{sym, ap, subst, _∙_}
 use Rattle.make_lines.specs.Draft.{enough, DraftPromise}
 use Rattle.make_lines.specs.declared.Drafting.{Drafting}
 use Rattle.make_lines.specs.declared.Drafting.the-variants.{NotDrafted}

@@ -1,4 +1,4 @@
-use mathlib.Core.Path.{_≡_, refl, sym, ap, _∙_}
+use mathlib.Core.Path.{sym, ap, _∙_}
 use Rattle.make_lines.specs.Draft.{takenBy}
 use Rattle.make_lines.proofs.Drafts.{taken-passed, taken-else, bytes-passed, bytes-else}
 use borrow.Author.Needs.{needs}

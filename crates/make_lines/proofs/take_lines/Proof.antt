@@ -1,14 +1,11 @@
 use Prim.Native.Nat.{_*_}
 use borrow.Rule.Slice.PartMut.{same-len-mid}
 use Rattle.make_lines.proofs.Drafts.{going-room, refused-told}
-use Prim.Native.Nat.{ℕ, _+_, _-_, _≤_}
-use mathlib.Core.Path.{_≡_, refl, sym, ap, subst, _∙_}
+use Prim.Native.Nat.{ℕ, _-_}
+use mathlib.Core.Path.{sym, _∙_}
 use native.Mathlib.Omega.{arith}
-use lib.ListN.{length, drop}
+use lib.ListN.{length}
 use borrow.Author.Needs.{needs}
-use Rattle.make_lines.specs.Draft.{LinesPromise}
-use Rattle.make_lines.specs.declared.Drafting.{Drafting}
-use Rattle.make_lines.specs.declared.Drafting.the-variants.{NotDrafted}
 use Rattle.make_lines.proofs.Pieces.{piece-goes-on}
 use Rattle.make_lines.proofs.Drafts.{Going, going-start, going-long, going-stop, going-next, going-end, added-few}
 use Rattle.make_lines.proofs.take_lines.Statement.{statement}

@@ -1,6 +1,6 @@
 use Prim.Native.Nat.{ℕ}
 use mathlib.Core.List.{List}
-use mathlib.Core.Path.{_≡_, ap, _∙_}
+use mathlib.Core.Path.{ap, _∙_}
 use Rattle.fields.specs.Numbers.{value}
 use Rattle.make_lines.specs.Lines.{capped}
 use borrow.Author.Needs.{needs}

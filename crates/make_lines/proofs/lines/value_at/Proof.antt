@@ -1,4 +1,4 @@
-use mathlib.Core.Path.{_≡_, sym, ap, _∙_}
+use mathlib.Core.Path.{sym, ap, _∙_}
 use Rattle.make_lines.specs.Lines.{before}
 use Rattle.make_lines.proofs.Pieces.{piece, value-is}
 use borrow.Author.Needs.{needs}

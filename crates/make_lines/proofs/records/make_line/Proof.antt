@@ -2,7 +2,7 @@ use Rattle.operations.specs.declared.Making.{Making}
 use Rattle.operations.specs.declared.Making.the-variants.{NotMade}
 use Rattle.make_lines.specs.Draft.{LinePromise}
 use mathlib.Core.Path.{subst}
-use mathlib.Core.Path.{_≡_, refl, sym, ap, _∙_}
+use mathlib.Core.Path.{sym, ap, _∙_}
 use Rattle.make_lines.proofs.Made.{sound-given, line-refused, line-made}
 use borrow.Author.Needs.{needs}
 use Rattle.make_lines.proofs.records.make_line.Statement.{statement}

@@ -1,10 +1,9 @@
 use Rattle.layout.specs.declared.Finding.the-variants.{Fault}
-use Rattle.make_lines.specs.declared.slots.Slot.{Slot}
 use Rattle.layout.specs.declared.Finding.{Finding}
-use Prim.Native.Nat.{ℕ, _+_, _-_, _≤_}
+use Prim.Native.Nat.{_-_, _≤_}
 use mathlib.Core.Path.{_≡_, refl, sym, ap, _∙_}
 use native.Mathlib.Omega.{arith}
-use lib.ListN.{length, drop, getD}
+use lib.ListN.{length, drop}
 use borrow.Author.Needs.{needs}
 use Rattle.make_lines.specs.Lines.{valuesOf}
 use Rattle.make_lines.specs.Draft.{slotsOf, fieldOf, counted, givenIn}

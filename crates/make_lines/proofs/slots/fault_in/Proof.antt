@@ -1,5 +1,4 @@
-use mathlib.Core.Path.{_≡_, sym, ap, _∙_}
-use mathlib.Core.Bool.{Bool}
+use mathlib.Core.Path.{sym, _∙_}
 use Rattle.make_lines.specs.Draft.{faultIn}
 use borrow.Author.Needs.{needs}
 use Rattle.make_lines.proofs.slots.fault_in.Statement.{statement}

@@ -1,4 +1,4 @@
-use mathlib.Core.Path.{_≡_, ap, _∙_}
+use mathlib.Core.Path.{ap, _∙_}
 use Rattle.make_lines.specs.Draft.{typeGiven}
 use borrow.Author.Needs.{needs}
 use Rattle.make_lines.proofs.slots.kind_in.Statement.{statement}

@@ -1,8 +1,8 @@
 use Rattle.layout.specs.declared.Finding.{Finding}
-use Prim.Native.Nat.{ℕ, _+_, _-_, _≤_}
+use Prim.Native.Nat.{_+_, _-_, _≤_}
 use mathlib.Core.Path.{_≡_, refl, sym, ap, _∙_}
 use native.Mathlib.Omega.{arith}
-use lib.ListN.{length, drop, getD}
+use lib.ListN.{drop}
 use borrow.Author.Needs.{needs}
 use Rattle.layout.specs.Findings.{orElse}
 use Rattle.make_lines.specs.Draft.{slotsOf, numerals, givenIn}

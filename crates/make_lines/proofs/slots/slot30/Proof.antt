@@ -1,11 +1,8 @@
 use Rattle.make_lines.proofs.Counting.{past-seven}
-use Prim.Native.Nat.{ℕ}
-use mathlib.Core.Path.{_≡_}
 use Rattle.rules.specs.declared.Kind.the-variants.{R30}
 use Rattle.make_lines.specs.Draft.{slotsOf}
 use Rattle.make_lines.specs.declared.slots.Slot.the-variants.{Words}
 use mathlib.Core.Path.{sym}
-use native.Mathlib.Omega.{arith}
 use lib.ListN.{List·getD-eq-default}
 use borrow.Author.Needs.{needs}
 use Rattle.make_lines.proofs.slots.slot30.Statement.{statement}

@@ -3,7 +3,6 @@ use Rattle.rules.specs.declared.Kind.the-variants.{R40}
 use Rattle.make_lines.specs.Draft.{slotsOf}
 use Rattle.make_lines.specs.declared.slots.Slot.the-variants.{Words}
 use mathlib.Core.Path.{sym}
-use native.Mathlib.Omega.{arith}
 use lib.ListN.{List·getD-eq-default}
 use borrow.Author.Needs.{needs}
 use Rattle.make_lines.proofs.slots.slot40.Statement.{statement}

@@ -3,8 +3,7 @@ use Rattle.layout.specs.Findings.{demanded}
 use Rattle.layout.specs.declared.Finding.the-variants.{Sound}
 use Rattle.make_lines.specs.declared.slots.Slot.{Slot}
 use Rattle.make_lines.specs.Draft.{slotFound}
-use mathlib.Core.Path.{_≡_, refl, sym, ap, _∙_}
-use Prim.Native.Nat.{ℕ}
+use mathlib.Core.Path.{sym, ap, _∙_}
 use borrow.Author.Needs.{needs}
 use Rattle.make_lines.proofs.slots.slot_found.Statement.{statement}
 use Rattle.make_lines.proofs.slots.slot_found.Tie as tie

@@ -1,4 +1,4 @@
-use mathlib.Core.Path.{_≡_, ap₂, _∙_}
+use mathlib.Core.Path.{ap₂, _∙_}
 use Rattle.layout.specs.Findings.{orElse}
 use borrow.Author.Needs.{needs}
 use Rattle.make_lines.proofs.slots.slots_found.Statement.{statement}
