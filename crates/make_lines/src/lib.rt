@@ -15,8 +15,8 @@ use operations::Making;
 use rules::Refusal;
 
 pub mod lines;
-mod records;
-mod slots;
+pub mod records;
+pub mod slots;
 
 // What making a draft answers: how many records it has, or a refusal that bears the line in the place of a record.
 pub enum Drafting {

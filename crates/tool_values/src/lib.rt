@@ -1,6 +1,7 @@
 // Lines of values as the tool tells of them: how many records they made, or what is wrong with a line, with the value underlined.
 
 use field_accounts::Account;
+use limits::RECORD_BYTES;
 use make_lines::lines::line_at;
 use make_lines::lines::number_at;
 use make_lines::lines::value_at;
@@ -36,19 +37,29 @@ fn place_of(kind: Kind, field: u8) -> usize {
         }
         i += 1;
     }
-    slots::slots_in(kind) + 1
+    let n = slots::slots_in(kind);
+    if 7 < n {
+        return 0;
+    }
+    n + 1
 }
 
 // Blanks up to a value, and marks below its letters; one mark where it has none.
-fn underline(start: usize, length: usize) {
-    let from = start as u64 + 1;
+fn underline(start: u64, length: u64) {
+    if (SHOWN as u64) < start {
+        return;
+    }
+    if (SHOWN as u64) < length {
+        return;
+    }
+    let from = start + 1;
     if length == 0 {
         tool_explain::underline(Positions { from, to: from });
         return;
     }
     tool_explain::underline(Positions {
         from,
-        to: start as u64 + length as u64,
+        to: start + length,
     });
 }
 
@@ -63,10 +74,7 @@ fn show_line(line: &[u8], place: usize) {
     program_lines::end_line();
     let start = value_start(line, place);
     let length = value_at(line, place).len();
-    if SHOWN < length {
-        return;
-    }
-    underline(start, length);
+    underline(start as u64, length as u64);
 }
 
 // The account's last digit that would be right.
@@ -130,23 +138,29 @@ fn say_places(kind: Kind, field: u8) {
     let positions = tool_positions::positions_of(kind, field as usize);
     let from = positions.from;
     let to = positions.to;
+    if (RECORD_BYTES as u64) < to {
+        return;
+    }
+    if from == to {
+        say(b"The field has 1 place.\n");
+        return;
+    }
     if from < to {
         say(b"The field has ");
         say_number(to - from + 1);
         say(b" places.\n");
-        return;
     }
-    say(b"The field has 1 place.\n");
 }
 
 // What would be right, where the rules know it.
 fn say_right(kind: Kind, x: Refusal, line: &[u8]) {
-    match x.number {
+    let number = x.number;
+    match number {
         7 => say_code(kind, x.field, line),
         8 => say_form(kind, x.field, line),
         11 => say_right_account(line, place_of(kind, x.field)),
         22 => say_places(kind, x.field),
-        _ => tool_explain::say_form(x.number),
+        _ => tool_explain::say_form(number),
     }
 }
 
