@@ -77,9 +77,9 @@ lines-long (l ∷ ls) room i n m e = go (passedOver l) (lineMaking l room) refl 
     go false (NotMade x) q e ih next = absurd (refused-not-made _ m e)
 
 -- so many first bytes of the output are the records, all of them
-pub draft-saved : (v out after : List ℕ) (n : ℕ) → DraftPromise v out (Drafted n) after → Saved (recordBytes * n) (draftBytes v (length out)) after
+pub draft-saved : (v out : List ℕ) (x : Drafting) (after : List ℕ) (n : ℕ) → DraftPromise v out x after → x ≡ Drafted n → Saved (recordBytes * n) (draftBytes v (length out)) after
 unfolding draftOf draftBytes
-draft-saved v out after n p = go (enough (bearing (linesOf v))) (p .answers) (p .leaves)
+draft-saved v out x after n p h = go (enough (bearing (linesOf v))) (sym h ∙ p .answers) (p .leaves)
   where
     go : (f : Finding) → Drafted n ≡ onEnough f (draftFrom (length out) 0 0 (linesOf v))
         → after ≡ bytesOn f (recordsFrom (length out) (linesOf v)) ++ drop (length (bytesOn f (recordsFrom (length out) (linesOf v)))) out

@@ -20,8 +20,8 @@ use tool_phrases::help;
 // A file of full size and a record more, which the rules refuse.
 const ROOM: usize = RECORD_BYTES * (MOST_RECORDS + 1);
 
-// Values of a draft of full size, each field written out, and half as much again for remarks.
-const VALUES_ROOM: usize = 32_000_000;
+// Values of a draft of full size with every field written out, and 7 million bytes for remarks.
+const VALUES_ROOM: usize = 24_000_000;
 
 fn check(file: &[u8]) {
     match check_file::check(asked::day(), file) {
@@ -98,54 +98,6 @@ fn part(file: &[u8], first: &mut [u8], second: &mut [u8]) {
     }
 }
 
-// The command on its first file, with room for two more.
-fn serve(file: &[u8], second: &mut [u8], third: &mut [u8]) {
-    match asked::command_given() {
-        Command::Check => check(file),
-        Command::Close => close(file, second),
-        Command::Join => with_second(file, second, third),
-        Command::Part => part(file, second, third),
-        Command::Make => help::say_usage(Command::Make),
-        Command::Help => help::say_help(),
-        Command::Unknown => help::say_usage(Command::Unknown),
-    }
-}
-
-fn read_first(name: &[u8], first: &mut [u8], second: &mut [u8], third: &mut [u8]) {
-    let fd = tool_files::open_input(name);
-    if fd < 0 {
-        return;
-    }
-    let n = io::read_full(fd, first);
-    if tool_files::ended(fd, name, b"a file has at most 200,000 records") {
-        serve(&first[..n], second, third);
-    }
-}
-
-fn run(first: &mut [u8], second: &mut [u8], third: &mut [u8]) {
-    let mut name = io::buffer();
-    let n = os::arg(3, &mut name);
-    read_first(&name[..n], first, second, third);
-}
-
-fn with_room(first: &mut [u8; ROOM], second: &mut [u8; ROOM], third: &mut [u8; ROOM]) {
-    run(first, second, third);
-}
-
-// Room for three files in a frame of its own: a function that calls itself is not merged into its caller, so
-// that help and wrong usage need no large stack. It never does call itself: no command line has a million words.
-fn hold(again: u64) {
-    if 0 < again {
-        hold(again - 1);
-        program_lines::end_line();
-        return;
-    }
-    let mut first = [0u8; ROOM];
-    let mut second = [0u8; ROOM];
-    let mut third = [0u8; ROOM];
-    with_room(&mut first, &mut second, &mut third);
-}
-
 // The draft of so many records goes to the file that the command line names.
 fn keep_draft(out: &[u8], records: u64)
     requires { ⌜ recordBytes * records ≤ length (now out) ⌝ }
@@ -153,7 +105,7 @@ fn keep_draft(out: &[u8], records: u64)
     let mut name = io::buffer();
     let n = os::arg(3, &mut name);
     let end = RECORD_BYTES * records as usize;
-    if tool_files::save(&name[..n], &out[..end]) {
+    if tool_files::save(&name[..n], &out[0..end]) {
         tool_values::tell_made(records);
     }
 }
@@ -171,9 +123,49 @@ fn read_values(name: &[u8], values: &mut [u8], out: &mut [u8]) {
         return;
     }
     let n = io::read_full(fd, values);
-    if tool_files::ended(fd, name, b"values have at most 32,000,000 bytes") {
+    if tool_files::ended(fd, name, b"values have at most 24,000,000 bytes") {
         make(&values[..n], out);
     }
+}
+
+// The command on its first file, with room for two more.
+fn serve(file: &[u8], second: &mut [u8], third: &mut [u8]) {
+    match asked::command_given() {
+        Command::Check => check(file),
+        Command::Close => close(file, second),
+        Command::Join => with_second(file, second, third),
+        Command::Part => part(file, second, third),
+        Command::Make => help::say_usage(Command::Make),
+        Command::Help => help::say_help(),
+        Command::Unknown => help::say_usage(Command::Unknown),
+    }
+}
+
+fn shorter(n: usize, most: usize) -> usize
+    ensures { λ x. ⌜ x ≤ n ⌝ }
+{
+    if n < most {
+        return n;
+    }
+    most
+}
+
+fn read_first(name: &[u8], first: &mut [u8], second: &mut [u8], third: &mut [u8]) {
+    let fd = tool_files::open_input(name);
+    if fd < 0 {
+        return;
+    }
+    let most = shorter(first.len(), ROOM);
+    let n = io::read_full(fd, &mut first[0..most]);
+    if tool_files::ended(fd, name, b"a file has at most 200,000 records") {
+        serve(&first[0..n], second, third);
+    }
+}
+
+fn run_file(first: &mut [u8], second: &mut [u8], third: &mut [u8]) {
+    let mut name = io::buffer();
+    let n = os::arg(3, &mut name);
+    read_first(&name[..n], first, second, third);
 }
 
 fn run_values(values: &mut [u8], out: &mut [u8]) {
@@ -182,20 +174,32 @@ fn run_values(values: &mut [u8], out: &mut [u8]) {
     read_values(&name[..n], values, out);
 }
 
-fn with_values(values: &mut [u8; VALUES_ROOM], out: &mut [u8; ROOM]) {
-    run_values(values, out);
+// Values are the first words of their command, a file stands behind its process day.
+fn run(first: &mut [u8], second: &mut [u8], third: &mut [u8]) {
+    let command = asked::command_given();
+    if let Command::Make = command {
+        run_values(first, second);
+        return;
+    }
+    run_file(first, second, third);
 }
 
-// Room for values and a draft, in a frame of its own as above.
-fn hold_values(again: u64) {
+fn with_room(first: &mut [u8; VALUES_ROOM], second: &mut [u8; ROOM], third: &mut [u8; ROOM]) {
+    run(first, second, third);
+}
+
+// Room for three files, or for values and a draft, in a frame of its own: a function that calls itself is not merged into its caller, so
+// that help and wrong usage need no large stack. It never does call itself: no command line has a million words.
+fn hold(again: u64) {
     if 0 < again {
-        hold_values(again - 1);
+        hold(again - 1);
         program_lines::end_line();
         return;
     }
-    let mut values = [0u8; VALUES_ROOM];
-    let mut out = [0u8; ROOM];
-    with_values(&mut values, &mut out);
+    let mut first = [0u8; VALUES_ROOM];
+    let mut second = [0u8; ROOM];
+    let mut third = [0u8; ROOM];
+    with_room(&mut first, &mut second, &mut third);
 }
 
 fn main() {
@@ -209,10 +213,5 @@ fn main() {
         return;
     }
     // asked for a second time, so that the compiler cannot see that this is 0
-    let again = (os::arg_count() / 1000000) as u64;
-    if let Command::Make = command {
-        hold_values(again);
-        return;
-    }
-    hold(again);
+    hold((os::arg_count() / 1000000) as u64);
 }
