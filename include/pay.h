@@ -130,10 +130,11 @@ void pay_part(uint64_t year, uint64_t month, uint64_t day, const uint8_t *file, 
  *     date      DDMMYY as a number: 11125 is 1 November 2025 (in C a number that begins with 0 is another)
  *     amount    in hundredths of a krone
  * Refused is, in this order:
- *     PAY_TOO_LONG           at the first value that has more digits or bytes than its field has places; docs/FORMAT.md has them, and so have the lines below. No other operation gives it
- *     the first field that breaks a rule which looks at the record alone; of service and type PAY_BAD_FIXED where they are not listed
+ *     PAY_TOO_LONG           at the first value with more digits or bytes than its field has places, which are told below; no other operation gives it
+ *     a rule's own number    at the first field that breaks a rule which looks at the record alone: PAY_BAD_FIXED, where service or type are not listed too,
+ *                            PAY_BAD_FORM, PAY_NO_DATE, PAY_BAD_ACCOUNT or PAY_PAST_LIMIT
  *     PAY_OUTPUT_TOO_SHORT   where out has fewer than PAY_RECORD_BYTES
- * What other records or the process day decide is left to pay_close: the order, numbers and services that agree, dates in time, sums, places, keys.
+ * What other records or the process day decide is left to pay_close: the order, numbers that count up, what has to agree, dates in time, sums, places, keys.
  */
 
 /* The start of a file. Places: sender 8, number 7. */
