@@ -174,6 +174,69 @@ static void try_part(void)
     refuses("part at the largest number", PAY_NO_BOUNDARY, 0, 0, 0);
 }
 
+/* A record was made, and holds these bytes and no others. */
+static void makes(const char *what, const char *record)
+{
+    const uint64_t asked[PAY_ANSWER] = {[PAY_WHAT] = PAY_MADE, [PAY_WRITTEN] = PAY_RECORD_BYTES};
+
+    answers(what, asked);
+    holds(what, out, (const uint8_t *)record, PAY_RECORD_BYTES);
+    clear();
+}
+
+/* Each record type once, in just enough room or more. */
+static void try_make(void)
+{
+    pay_make10(12345, 110001, out, PAY_RECORD_BYTES, answer);
+    makes("make a 10", START);
+    pay_make20(4, 1, 1, 12345678903, out, PAY_RECORD_BYTES + LONGER, answer);
+    makes("make a 20", ONE);
+    pay_make30(4, 2, 1, 11125, BYTES("12345678903"), 80000, BYTES(""), out, PAY_RECORD_BYTES, answer);
+    makes("make a 30", &ONE[PAY_RECORD_BYTES]);
+    pay_make31(4, 2, 1, BYTES("MAKRELL"), BYTES(""), BYTES(""), out, ROOM, answer);
+    makes("make a 31", &ONE[2 * PAY_RECORD_BYTES]);
+    pay_make40(4, 3, 1, BYTES("KARI"), BYTES("9008"), BYTES(""), BYTES("BODIN"), out, ROOM, answer);
+    makes("make a 40", "NY0403400000001KARI                          9008   BODIN                    000\n");
+    pay_make49(1, 3, 2, 1, 2, BYTES("IS"), out, ROOM, answer);
+    makes("make a 49", "NY010349000000230012IS                                      00000000000000000000\n");
+    pay_make50(4, 17, 4, BYTES("12345"), 20000, out, ROOM, answer);
+    makes("make a 50", "NY0417500000004                    123450000000000002000000000000000000000000000\n");
+}
+
+/* The order of refusals: too long, then the record's own rules, then the room. */
+static void try_make_refused(void)
+{
+    pay_make10(UINT64_MAX, UINT64_MAX, out, 0, answer);
+    refuses("make a 10 of the largest numbers", PAY_TOO_LONG, 0, 0, 5);
+    pay_make20(5, 1, 1, 12345678903, out, 0, answer);
+    refuses("make a 20 of service 05", PAY_BAD_FIXED, 0, 0, 2);
+    pay_make30(4, 2, 1, 310225, BYTES("12345678903"), 80000, BYTES(""), out, ROOM, answer);
+    refuses("make a 30 on no day", PAY_NO_DATE, 0, 0, 6);
+    pay_make31(4, 2, 1, BYTES("MAKRELLFISK"), BYTES("\t"), BYTES(""), out, ROOM, answer);
+    refuses("make a 31 with a name of eleven", PAY_TOO_LONG, 0, 0, 6);
+    pay_make40(4, 4, 1, BYTES("KARI"), BYTES("9008"), BYTES(""), BYTES(""), out, ROOM, answer);
+    refuses("make a 40 of type 04 without an area", PAY_BAD_FORM, 0, 0, 9);
+    pay_make49(1, 3, 2, 0, 2, BYTES("IS"), out, ROOM, answer);
+    refuses("make a 49 without a line", PAY_BAD_FIXED, 0, 0, 7);
+    pay_make50(4, 17, 4, BYTES("12345"), 20000, out, PAY_RECORD_BYTES - 1, answer);
+    refuses("make a 50 with too little room", PAY_OUTPUT_TOO_SHORT, 0, 0, 0);
+}
+
+/* A record of nothing into nothing, by any pointer. */
+static void try_make_nothing(uint8_t *any)
+{
+    pay_make10(1, 1, any, 0, answer);
+    refuses("make a 10 into nothing", PAY_OUTPUT_TOO_SHORT, 0, 0, 0);
+    pay_make31(4, 2, 1, any, 0, any, 0, any, 0, any, 0, answer);
+    refuses("make a 31 of nothing", PAY_OUTPUT_TOO_SHORT, 0, 0, 0);
+    pay_make40(4, 3, 1, any, 0, any, 0, any, 0, any, 0, any, 0, answer);
+    refuses("make a 40 of nothing", PAY_OUTPUT_TOO_SHORT, 0, 0, 0);
+    pay_make30(4, 2, 1, 11125, any, 0, 0, any, 0, out, ROOM, answer);
+    refuses("make a 30 to nobody", PAY_BAD_FORM, 0, 0, 7);
+    pay_make50(4, 16, 1, any, 0, 0, out, ROOM, answer);
+    refuses("make a 50 without a KID", PAY_BAD_FORM, 0, 0, 6);
+}
+
 /* Nothing, by any pointer. */
 static void try_nothing(uint8_t *any)
 {
@@ -202,8 +265,12 @@ int main(void)
     try_close();
     try_join();
     try_part();
+    try_make();
+    try_make_refused();
     try_nothing(NULL);
     try_nothing((uint8_t *)UINTPTR_MAX);
+    try_make_nothing(NULL);
+    try_make_nothing((uint8_t *)UINTPTR_MAX);
     if (faults == 0)
         printf("      %d answers and outputs are as the header says\n", tried);
     return faults != 0;

@@ -1,4 +1,4 @@
-/* stack.c: how much stack each operation takes on files of 500 assignments. Each runs in a thread whose stack was painted before; the deepest byte that is
+/* stack.c: how much stack each operation takes, those on files with 500 assignments, and the makings together. Each runs in a thread whose stack was painted before; the deepest byte that is
  * no paint any more says how far it went. Fails above PAY_STACK. The deepest operation is the first, with what the loader takes to find memset for it. */
 #define _XOPEN_SOURCE 600 /* for pthread_attr_setstack */
 #include <pthread.h>
@@ -54,11 +54,31 @@ static void run_part(void)
     pay_part(2025, 10, 1, (uint8_t *)file, file_length, ASSIGNMENTS / 2, out, ROOM, out_second, ROOM, answer);
 }
 
+/* a text in C as bytes, and how many they are */
+#define TEXT(text) (const uint8_t *)(text), sizeof(text) - 1
+
+static void run_make(void)
+{
+    pay_make10(12345, 110001, out, ROOM, answer);
+    pay_make20(4, 1, 1, 12345678903, out, ROOM, answer);
+    pay_make30(4, 2, 1, 11125, TEXT("12345678903"), 80000, TEXT(""), out, ROOM, answer);
+    pay_make31(4, 2, 1, TEXT("MAKRELL"), TEXT("LANDING 441"), TEXT("TORSK UKE 44"), out, ROOM, answer);
+    pay_make40(4, 3, 1, TEXT("KARI HANSEN"), TEXT("9008"), TEXT(""), TEXT("BODIN"), out, ROOM, answer);
+    pay_make49(1, 3, 2, 1, 2, TEXT("IS OKTOBER"), out, ROOM, answer);
+    pay_make50(4, 16, 4, TEXT("00012345686"), 50000, out, ROOM, answer);
+}
+
 static const struct {
     const char *name;
     void (*run)(void);
     uint64_t what;
-} operations[] = {{"pay_part", run_part, PAY_PARTED}, {"pay_close", run_close, PAY_ACCEPTED}, {"pay_join", run_join, PAY_ACCEPTED}, {"pay_check", run_check, PAY_ACCEPTED}};
+} operations[] = {
+    {"pay_part", run_part, PAY_PARTED},
+    {"pay_close", run_close, PAY_ACCEPTED},
+    {"pay_join", run_join, PAY_ACCEPTED},
+    {"pay_check", run_check, PAY_ACCEPTED},
+    {"pay_make10 to pay_make50", run_make, PAY_MADE},
+};
 
 static uint64_t depth;
 
@@ -111,7 +131,7 @@ int main(void)
     half_length = put(half, 1, ASSIGNMENTS / 2, 1);
     other_length = put(other, ASSIGNMENTS / 2 + 1, ASSIGNMENTS, 1);
     draft_length = put(draft, 1, ASSIGNMENTS, 0);
-    for (int which = 0; which < 4; which++)
+    for (int which = 0; which < 5; which++)
         failed |= measure(which);
     return failed;
 }

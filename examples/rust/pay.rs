@@ -1,4 +1,4 @@
-//! The pay office's four operations for programs in Rust: the declarations of `include/pay.h`, and safe functions over them.
+//! The pay office's operations for programs in Rust: the declarations of `include/pay.h`, and safe functions over them.
 //! The header says what goes in, what comes out and how much room an output needs; `check.rs` is a program over this file.
 //!
 //! To use it in a package, copy it to `src/` and let `build.rs` name the archive:
@@ -52,6 +52,83 @@ unsafe extern "C" {
         second_length: u64,
         answer: *mut [u64; 16],
     );
+    fn pay_make10(sender: u64, number: u64, out: *mut u8, out_length: u64, answer: *mut [u64; 16]);
+    fn pay_make20(
+        service: u64,
+        agreement: u64,
+        assignment: u64,
+        account: u64,
+        out: *mut u8,
+        out_length: u64,
+        answer: *mut [u64; 16],
+    );
+    fn pay_make30(
+        service: u64,
+        r#type: u64,
+        number: u64,
+        date: u64,
+        party: *const u8,
+        party_length: u64,
+        amount: u64,
+        kid: *const u8,
+        kid_length: u64,
+        out: *mut u8,
+        out_length: u64,
+        answer: *mut [u64; 16],
+    );
+    fn pay_make31(
+        service: u64,
+        r#type: u64,
+        number: u64,
+        text6: *const u8,
+        text6_length: u64,
+        text7: *const u8,
+        text7_length: u64,
+        text8: *const u8,
+        text8_length: u64,
+        out: *mut u8,
+        out_length: u64,
+        answer: *mut [u64; 16],
+    );
+    fn pay_make40(
+        service: u64,
+        r#type: u64,
+        number: u64,
+        name: *const u8,
+        name_length: u64,
+        postal: *const u8,
+        postal_length: u64,
+        filler: *const u8,
+        filler_length: u64,
+        area: *const u8,
+        area_length: u64,
+        out: *mut u8,
+        out_length: u64,
+        answer: *mut [u64; 16],
+    );
+    fn pay_make49(
+        service: u64,
+        r#type: u64,
+        number: u64,
+        line: u64,
+        column: u64,
+        text: *const u8,
+        text_length: u64,
+        out: *mut u8,
+        out_length: u64,
+        answer: *mut [u64; 16],
+    );
+    fn pay_make50(
+        service: u64,
+        r#type: u64,
+        number: u64,
+        kid: *const u8,
+        kid_length: u64,
+        amount: u64,
+        out: *mut u8,
+        out_length: u64,
+        answer: *mut [u64; 16],
+    );
 }
 
 pub const PAY_RECORD_BYTES: usize = 81;
@@ -101,12 +178,21 @@ pub struct Parted {
     pub written_second: usize,
 }
 
+/// Service, type (`code`) and number of a transaction, which its records repeat: 4, 2, 1. A 50 has a type of its own, 16 or 17.
+#[derive(Clone, Copy, Debug)]
+pub struct Transaction {
+    pub service: u64,
+    pub code: u64,
+    pub number: u64,
+}
+
 /// The first fault. No byte of an output was changed.
 #[derive(Clone, Copy, Debug, PartialEq, Eq)]
 pub struct Refused {
     pub number: u64,
     /// which of two files, when joining: 1 or 2, else 0
     pub operand: u64,
+    /// 0 for the whole file, and when making
     pub record: u64,
     pub field: u64,
 }
@@ -143,6 +229,11 @@ fn parted(answer: &Answer) -> Result<Parted, Refused> {
         written: answer[PAY_WRITTEN] as usize,
         written_second: answer[PAY_WRITTEN_SECOND] as usize,
     })
+}
+
+fn made(answer: &Answer) -> Result<usize, Refused> {
+    refused(answer)?;
+    Ok(answer[PAY_WRITTEN] as usize)
 }
 
 // In each call below: a pointer goes with the length of its slice, and a slice that is lent for writing overlaps nothing else.
@@ -219,6 +310,172 @@ pub fn part(
     parted(&answer)
 }
 
+// Each of these makes a record from values at the start of the output, and gives how many bytes it has: PAY_RECORD_BYTES, which are always room enough.
+// Texts are bytes of ISO 8859-1. A date is the number DDMMYY, 1 November 2025 being 11125.
+
+/// The start of a file.
+pub fn make10(sender: u64, number: u64, out: &mut [u8]) -> Result<usize, Refused> {
+    let mut answer = [0; PAY_ANSWER];
+    // SAFETY: as above.
+    unsafe { pay_make10(sender, number, out.as_mut_ptr(), out.len() as u64, &mut answer) };
+    made(&answer)
+}
+
+/// The start of an assignment.
+pub fn make20(
+    service: u64,
+    agreement: u64,
+    assignment: u64,
+    account: u64,
+    out: &mut [u8],
+) -> Result<usize, Refused> {
+    let (to, room) = (out.as_mut_ptr(), out.len() as u64);
+    let mut answer = [0; PAY_ANSWER];
+    // SAFETY: as above.
+    unsafe { pay_make20(service, agreement, assignment, account, to, room, &mut answer) };
+    made(&answer)
+}
+
+/// A payment or a claim.
+pub fn make30(
+    of: Transaction,
+    date: u64,
+    party: &[u8],
+    amount: u64,
+    kid: &[u8],
+    out: &mut [u8],
+) -> Result<usize, Refused> {
+    let mut answer = [0; PAY_ANSWER];
+    // SAFETY: as above.
+    unsafe {
+        pay_make30(
+            of.service,
+            of.code,
+            of.number,
+            date,
+            party.as_ptr(),
+            party.len() as u64,
+            amount,
+            kid.as_ptr(),
+            kid.len() as u64,
+            out.as_mut_ptr(),
+            out.len() as u64,
+            &mut answer,
+        )
+    };
+    made(&answer)
+}
+
+/// The references of a payment: short name, own reference, reference for the other party.
+pub fn make31(
+    of: Transaction,
+    text6: &[u8],
+    text7: &[u8],
+    text8: &[u8],
+    out: &mut [u8],
+) -> Result<usize, Refused> {
+    let mut answer = [0; PAY_ANSWER];
+    // SAFETY: as above.
+    unsafe {
+        pay_make31(
+            of.service,
+            of.code,
+            of.number,
+            text6.as_ptr(),
+            text6.len() as u64,
+            text7.as_ptr(),
+            text7.len() as u64,
+            text8.as_ptr(),
+            text8.len() as u64,
+            out.as_mut_ptr(),
+            out.len() as u64,
+            &mut answer,
+        )
+    };
+    made(&answer)
+}
+
+/// The payee's address: name, postal code, postal filler, area.
+pub fn make40(
+    of: Transaction,
+    name: &[u8],
+    postal: &[u8],
+    filler: &[u8],
+    area: &[u8],
+    out: &mut [u8],
+) -> Result<usize, Refused> {
+    let mut answer = [0; PAY_ANSWER];
+    // SAFETY: as above.
+    unsafe {
+        pay_make40(
+            of.service,
+            of.code,
+            of.number,
+            name.as_ptr(),
+            name.len() as u64,
+            postal.as_ptr(),
+            postal.len() as u64,
+            filler.as_ptr(),
+            filler.len() as u64,
+            area.as_ptr(),
+            area.len() as u64,
+            out.as_mut_ptr(),
+            out.len() as u64,
+            &mut answer,
+        )
+    };
+    made(&answer)
+}
+
+/// A piece of a message.
+pub fn make49(
+    of: Transaction,
+    line: u64,
+    column: u64,
+    text: &[u8],
+    out: &mut [u8],
+) -> Result<usize, Refused> {
+    let (from, length) = (text.as_ptr(), text.len() as u64);
+    let mut answer = [0; PAY_ANSWER];
+    // SAFETY: as above.
+    unsafe {
+        pay_make49(
+            of.service,
+            of.code,
+            of.number,
+            line,
+            column,
+            from,
+            length,
+            out.as_mut_ptr(),
+            out.len() as u64,
+            &mut answer,
+        )
+    };
+    made(&answer)
+}
+
+/// A sub-specification.
+pub fn make50(of: Transaction, kid: &[u8], amount: u64, out: &mut [u8]) -> Result<usize, Refused> {
+    let (from, length) = (kid.as_ptr(), kid.len() as u64);
+    let mut answer = [0; PAY_ANSWER];
+    // SAFETY: as above.
+    unsafe {
+        pay_make50(
+            of.service,
+            of.code,
+            of.number,
+            from,
+            length,
+            amount,
+            out.as_mut_ptr(),
+            out.len() as u64,
+            &mut answer,
+        )
+    };
+    made(&answer)
+}
+
 #[cfg(test)]
 mod tests {
     use super::*;
@@ -227,6 +484,7 @@ mod tests {
     const WHOLE: &[u8] = include_bytes!("../whole.txt");
     const TWIN: &[u8] = include_bytes!("../twin.txt");
     const DRAFT: &[u8] = include_bytes!("../draft.txt");
+    const EVERY: &[u8] = include_bytes!("../every.txt");
 
     fn figures(assignments: u64, written: usize) -> Accepted {
         let (transactions, records) = (assignments, 4 * assignments + 2);
@@ -278,5 +536,37 @@ mod tests {
         assert_eq!(&first[..parts.written], WHOLE);
         assert_eq!(&second[..parts.written_second], others);
         assert_eq!(part(ON, &file, 3, &mut first, &mut second), Err(fault(21, 0, 0, 0)));
+    }
+
+    /// Records of `every.txt` again, from their values.
+    #[test]
+    fn records_are_made() {
+        let pay = |code, number| Transaction { service: 4, code, number };
+        let draw = |number| Transaction { service: 1, code: 3, number };
+        let mut out = [0; PAY_RECORD_BYTES];
+        let mut same = |at: usize, made: &dyn Fn(&mut [u8]) -> Result<usize, Refused>| {
+            assert_eq!(made(&mut out), Ok(PAY_RECORD_BYTES));
+            assert_eq!(out, EVERY[(at - 1) * PAY_RECORD_BYTES..at * PAY_RECORD_BYTES]);
+        };
+        same(1, &|out| make10(12345, 110002, out));
+        same(2, &|out| make20(4, 1, 1, 12345678903, out));
+        same(3, &|out| make30(pay(3, 1), 11125, b"11111111113", 125000, b"", out));
+        same(4, &|out| make31(pay(3, 1), b"HANSEN", b"LANDING 441", b"TORSK UKE 44", out));
+        same(5, &|out| make40(pay(3, 1), b"KARI HANSEN", b"9008", b"", b"TROMS\xd8", out));
+        same(9, &|out| make30(pay(12, 3), 101125, b"22222222226", 45050, b"00012345678", out));
+        same(13, &|out| make50(pay(16, 4), b"00012345686", 50000, out));
+        same(22, &|out| make49(draw(2), 1, 1, b"IS OKTOBER: 350 KG", out));
+    }
+
+    #[test]
+    fn values_are_refused() {
+        let claim = Transaction { service: 1, code: 3, number: 2 };
+        let before = [b'#'; PAY_RECORD_BYTES];
+        let mut out = before;
+        assert_eq!(make10(100000000, 1, &mut out), Err(fault(22, 0, 0, 5)));
+        assert_eq!(make20(4, 1, 1, 12345678904, &mut out), Err(fault(11, 0, 0, 7)));
+        assert_eq!(make49(claim, 22, 1, b"", &mut out), Err(fault(7, 0, 0, 7)));
+        assert_eq!(make10(12345, 1, &mut out[..80]), Err(fault(19, 0, 0, 0)));
+        assert_eq!(out, before);
     }
 }

@@ -1,14 +1,24 @@
 // The own rules of a record that was made: the rows of its table that look at the record alone, each by the code that checking has for it.
+// Fields 7, 9 and 10 of a 30 are looked at here: the compiler merges the functions that checking has for them into its loop only while they have one caller.
 
 ghost use mathlib.Core.Path.{_≡_};
+ghost use mathlib.Core.Bool.{_&&_};
 ghost use mathlib.Core.List.{List};
 ghost use Prim.Native.Nat.{ℕ};
+ghost use lib.Dec.{eqb};
 ghost use lib.ListN.{length};
 ghost use Rattle.limits.specs.Limits.{recordBytes};
+ghost use Rattle.fields.specs.Bytes.{part};
+ghost use Rattle.fields.specs.Accounts.{isNumber};
+ghost use Rattle.fields.specs.Kids.{isReference};
 ghost use Rattle.layout.specs.Rows.{firstFault};
 ghost use Rattle.rules.specs.Alone.{ownTable};
+ghost use Rattle.rules.specs.Codes.{serviceCode, typeCode};
+ghost use Rattle.rules.specs.Layouts.{party30, tail30};
+ghost use Rattle.rules.specs.Payments.{kidForm};
 ghost use Rattle.make_rules.specs.Pieces.{serviced, numbered, headed, keyed, dated, priced, message, specified};
 use dates::Day;
+use field_accounts::Account;
 use field_bytes::classes::Class;
 use field_digits::DigitPairs;
 use field_digits::Digits;
@@ -91,6 +101,70 @@ fn amount(r: &[u8]) -> Finding
     )
 }
 
+fn is_number(account: Account) -> bool
+    ensures { λ x. ⌜ x ≡ isNumber account ⌝ }
+{
+    match account {
+        Account::Right => true,
+        Account::WrongDigit(_digit) => true,
+        Account::NoRightDigit => true,
+        Account::NotDigits => false,
+    }
+}
+
+// Field 7 of a 30 is a reference, which service 01 takes.
+fn referred(r: &[u8], service: u8) -> bool
+    requires { ⌜ length (now r) ≡ recordBytes ⌝ }
+    ensures { λ x. ⌜ x ≡ (eqb service 1 && isReference (part 22 32 (now (r .entry)))) ⌝ }
+{
+    if service == 1 {
+        return fields::reference_at(r, 22, 32);
+    }
+    false
+}
+
+// Field 7 of a 30: a reference, eleven digits of any sort for type 04 of service 04, or an account.
+fn party(r: &[u8], service: u8) -> Finding
+    requires { ⌜ (length (now r) ≡ recordBytes) × (service ≡ serviceCode (now r)) ⌝ }
+    ensures { λ x. ⌜ ((f : Totals) (ks : List ℕ) → x ≡ firstFault f ks (now (r .entry)) (party30 (now (r .entry)))) ⌝ }
+{
+    if referred(r, service) {
+        return Finding::Sound;
+    }
+    let account = fields::account_at(r, 22, 32);
+    if (service != 1) & (fields::code_at(r, 5) == 4) & is_number(account) {
+        return Finding::Sound;
+    }
+    layout::account_found(account, 7)
+}
+
+// Field 9 of a 30, by service and type.
+fn kid(r: &[u8], service: u8) -> bool
+    requires { ⌜ (length (now r) ≡ recordBytes) × (service ≡ serviceCode (now r)) ⌝ }
+    ensures { λ x. ⌜ x ≡ kidForm (serviceCode (now (r .entry))) (typeCode (now (r .entry))) (part 50 74 (now (r .entry))) ⌝ }
+{
+    if service == 1 {
+        if fields::all_at(Class::Blank, r, 50, 74) {
+            return true;
+        }
+        return fields::kid_right_at(r, 50, 74);
+    }
+    if fields::code_at(r, 5) == 12 {
+        return fields::kid_at(r, 50);
+    }
+    fields::all_at(Class::Blank, r, 50, 74)
+}
+
+// Fields 9 and 10 of a 30.
+fn tail(r: &[u8], service: u8) -> Finding
+    requires { ⌜ (length (now r) ≡ recordBytes) × (service ≡ serviceCode (now r)) ⌝ }
+    ensures { λ x. ⌜ ((f : Totals) (ks : List ℕ) → x ≡ firstFault f ks (now (r .entry)) (tail30 (now (r .entry)))) ⌝ }
+{
+    let sound = kid(r, service);
+    let zero = fields::all_at(Class::Zero, r, 75, 80);
+    Finding::Sound.demand(sound, 8, 9).demand(zero, 7, 10)
+}
+
 // Fields 6 to 10 of a 49. A line or column that is no such number gives 7, never 8.
 fn message(r: &[u8]) -> Finding
     requires { ⌜ length (now r) ≡ recordBytes ⌝ }
@@ -145,9 +219,9 @@ pub fn own30(r: &[u8]) -> Finding
     let service = fields::code_at(r, 3);
     heading(r)
         .or_else(date(r))
-        .or_else(record_30_fields::party(r, service))
+        .or_else(party(r, service))
         .or_else(amount(r))
-        .or_else(record_30::tail(r, service))
+        .or_else(tail(r, service))
 }
 
 pub fn own31(r: &[u8]) -> Finding

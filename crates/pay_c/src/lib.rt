@@ -1,11 +1,14 @@
 // The operations for programs in C or Rust: a slice is a pointer and a length, and the answer goes into sixteen lent numbers. include/pay.h declares them.
 
+pub mod make;
+
 ghost use mathlib.Core.Path.{_≡_};
-ghost use Rattle.operations.specs.Answers.{dayFrom, refusedNumbers, acceptedNumbers, checkedNumbers, writtenNumbers, partedNumbers};
+ghost use Rattle.operations.specs.Answers.{dayFrom, refusedNumbers, acceptedNumbers, checkedNumbers, writtenNumbers, partedNumbers, madeNumbers};
 ghost use Rattle.operations.specs.Promises.{CheckNumbers, CloseNumbers, JoinNumbers, PartNumbers};
 use dates::ProcessDay;
 use figures::totals::Totals;
 use limits::RECORD_BYTES;
+use operations::Making;
 use operations::Parting;
 use rules::Refusal;
 use rules::Verdict;
@@ -93,6 +96,34 @@ fn tell_parted(parting: Parting, answer: &mut [u64; 16])
         }
         Parting::NoBoundary(_assignments) => tell_refused(operations::no_boundary(), answer),
         Parting::NotParted(x) => tell_refused(x, answer),
+    }
+}
+
+fn tell_made(making: Making, answer: &mut [u64; 16])
+    ensures { λ _. ⌜ now (answer .exit) ≡ madeNumbers making ⌝ }
+{
+    match making {
+        Making::Made => {
+            *answer = [
+                3,
+                0,
+                0,
+                0,
+                0,
+                0,
+                0,
+                0,
+                0,
+                0,
+                RECORD_BYTES as u64,
+                0,
+                0,
+                0,
+                0,
+                0,
+            ];
+        }
+        Making::NotMade(x) => tell_refused(x, answer),
     }
 }
 

@@ -39,8 +39,8 @@ fn say_commands() {
 
 // What a line of values has, for each record type.
 fn say_values() {
-    say(b"VALUES has a line for each record, as a spreadsheet exports it in ISO 8859-1 (CSV\n");
-    say(b"with semicolons). Empty lines and lines that begin with # are passed over.\n");
+    say(b"VALUES has a line for each record, as a spreadsheet saves it: CSV with\n");
+    say(b"semicolons, in ISO 8859-1. Empty lines and lines with # first are passed over.\n");
     say(b"  10;sender;number\n");
     say(b"  20;service;agreement;assignment;account\n");
     say(b"  30;service;type;transaction;DDMMYY;payee or payer;amount;KID\n");
@@ -63,7 +63,7 @@ fn say_answers() {
     say(b"                                    joined one)\n");
     say(b"Behind a refusal stands, for people, what is wrong and where.\n");
     say(b"\n");
-    say(b"The status is 0 for accepted, made and parted, 1 for refused, 2 for wrong usage or\n");
-    say(b"trouble with a file. An output takes its name only when it is whole; else\n");
+    say(b"The status is 0 for accepted, made and parted, 1 for refused, 2 for wrong usage\n");
+    say(b"or trouble with a file. An output takes its name only when it is whole; else\n");
     say(b"nothing has changed. It may have the name of an input.\n");
 }

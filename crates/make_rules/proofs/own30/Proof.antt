@@ -15,8 +15,8 @@ use Rattle.layout.proofs.Finding.or_else.Reads as or-else-reads
 use Rattle.make_rules.proofs.amount.Reads as amount-reads
 use Rattle.make_rules.proofs.date.Reads as date-reads
 use Rattle.make_rules.proofs.heading.Reads as heading-reads
-use Rattle.record_30.proofs.tail.Reads as tail-reads
-use Rattle.record_30_fields.proofs.party.Reads as party-reads
+use Rattle.make_rules.proofs.tail.Reads as tail-reads
+use Rattle.make_rules.proofs.party.Reads as party-reads
 
 code-at-requires : tie.Need-code-at-requires
 code-at-requires c κs = search needs
