@@ -1,8 +1,8 @@
 // The own rules of a record that was made: the rows of its table that look at the record alone, each by the code that checking has for it.
-// Fields 7, 9 and 10 of a 30 are looked at here: the compiler merges the functions that checking has for them into its loop only while they have one caller.
+// Fields 7, 9 and 10 of a 30 and sound texts of a 31 are looked at here: the compiler merges the functions that checking has for them into its loop only while they have one caller.
 
 ghost use mathlib.Core.Path.{_≡_};
-ghost use mathlib.Core.Bool.{_&&_};
+ghost use mathlib.Core.Bool.{true, _&&_};
 ghost use mathlib.Core.List.{List};
 ghost use Prim.Native.Nat.{ℕ};
 ghost use lib.Dec.{eqb};
@@ -11,10 +11,10 @@ ghost use Rattle.limits.specs.Limits.{recordBytes};
 ghost use Rattle.fields.specs.Bytes.{part};
 ghost use Rattle.fields.specs.Accounts.{isNumber};
 ghost use Rattle.fields.specs.Kids.{isReference};
-ghost use Rattle.layout.specs.Rows.{firstFault};
+ghost use Rattle.layout.specs.Rows.{firstFault, AllHold};
 ghost use Rattle.rules.specs.Alone.{ownTable};
 ghost use Rattle.rules.specs.Codes.{serviceCode, typeCode};
-ghost use Rattle.rules.specs.Layouts.{party30, tail30};
+ghost use Rattle.rules.specs.Layouts.{party30, tail30, texts31};
 ghost use Rattle.rules.specs.Payments.{kidForm};
 ghost use Rattle.make_rules.specs.Pieces.{serviced, numbered, headed, keyed, dated, priced, message, specified};
 use dates::Day;
@@ -165,6 +165,25 @@ fn tail(r: &[u8], service: u8) -> Finding
     Finding::Sound.demand(sound, 8, 9).demand(zero, 7, 10)
 }
 
+// Fields 6 to 9 of a 31 hold. Zeros are text too, so that 64 positions are tested at once.
+fn sound_texts(r: &[u8]) -> bool
+    requires { ⌜ length (now r) ≡ recordBytes ⌝ }
+    ensures { λ x. ⌜ (x ≡ true → (f : Totals) (ks : List ℕ) → AllHold f ks (now (r .entry)) texts31) ⌝ }
+{
+    fields::all_at(Class::Text, r, 16, 79) & fields::all_at(Class::Zero, r, 76, 80)
+}
+
+// Fields 6 to 9 of a 31. Where all hold, no fault is looked for.
+fn texts(r: &[u8]) -> Finding
+    requires { ⌜ length (now r) ≡ recordBytes ⌝ }
+    ensures { λ x. ⌜ ((f : Totals) (ks : List ℕ) → x ≡ firstFault f ks (now (r .entry)) texts31) ⌝ }
+{
+    if sound_texts(r) {
+        return Finding::Sound;
+    }
+    record_31_40::texts(r)
+}
+
 // Fields 6 to 10 of a 49. A line or column that is no such number gives 7, never 8.
 fn message(r: &[u8]) -> Finding
     requires { ⌜ length (now r) ≡ recordBytes ⌝ }
@@ -228,7 +247,7 @@ pub fn own31(r: &[u8]) -> Finding
     requires { ⌜ length (now r) ≡ recordBytes ⌝ }
     ensures { λ x. ⌜ ((f : Totals) (ks : List ℕ) → x ≡ firstFault f ks (now (r .entry)) (ownTable Kind.R31 (now (r .entry)))) ⌝ }
 {
-    heading(r).or_else(record_31_40::texts(r))
+    heading(r).or_else(texts(r))
 }
 
 pub fn own40(r: &[u8]) -> Finding

@@ -11,7 +11,7 @@ use Rattle.make_rules.proofs.own31.Reads as reads
 use Rattle.make_rules.proofs.own31.Lts as lts
 use Rattle.layout.proofs.Finding.or_else.Reads as or-else-reads
 use Rattle.make_rules.proofs.heading.Reads as heading-reads
-use Rattle.record_31_40.proofs.texts.Reads as texts-reads
+use Rattle.make_rules.proofs.texts.Reads as texts-reads
 
 heading-requires : tie.Need-heading-requires
 heading-requires c κs = search needs
