@@ -9,7 +9,6 @@ ghost use lib.Dec.{eqb};
 ghost use lib.ListN.{length};
 ghost use Rattle.limits.specs.Limits.{recordBytes};
 ghost use Rattle.fields.specs.Bytes.{part};
-ghost use Rattle.fields.specs.Accounts.{isNumber};
 ghost use Rattle.fields.specs.Kids.{isReference};
 ghost use Rattle.layout.specs.Rows.{firstFault, AllHold};
 ghost use Rattle.rules.specs.Alone.{ownTable};
@@ -18,7 +17,6 @@ ghost use Rattle.rules.specs.Layouts.{party30, tail30, texts31};
 ghost use Rattle.rules.specs.Payments.{kidForm};
 ghost use Rattle.make_rules.specs.Pieces.{serviced, numbered, headed, keyed, dated, priced, message, specified};
 use dates::Day;
-use field_accounts::Account;
 use field_bytes::classes::Class;
 use field_digits::DigitPairs;
 use field_digits::Digits;
@@ -101,17 +99,6 @@ fn amount(r: &[u8]) -> Finding
     )
 }
 
-fn is_number(account: Account) -> bool
-    ensures { λ x. ⌜ x ≡ isNumber account ⌝ }
-{
-    match account {
-        Account::Right => true,
-        Account::WrongDigit(_digit) => true,
-        Account::NoRightDigit => true,
-        Account::NotDigits => false,
-    }
-}
-
 // Field 7 of a 30 is a reference, which service 01 takes.
 fn referred(r: &[u8], service: u8) -> bool
     requires { ⌜ length (now r) ≡ recordBytes ⌝ }
@@ -132,7 +119,7 @@ fn party(r: &[u8], service: u8) -> Finding
         return Finding::Sound;
     }
     let account = fields::account_at(r, 22, 32);
-    if (service != 1) & (fields::code_at(r, 5) == 4) & is_number(account) {
+    if (service != 1) & (fields::code_at(r, 5) == 4) & record_30_fields::is_number(account) {
         return Finding::Sound;
     }
     layout::account_found(account, 7)

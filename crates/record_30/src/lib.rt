@@ -53,7 +53,7 @@ fn head(r: &[u8], a: Assignment) -> Finding
 }
 
 // Fields 9 and 10. Where both hold, no fault is looked for.
-pub fn tail(r: &[u8], service: u8) -> Finding
+fn tail(r: &[u8], service: u8) -> Finding
     requires { ⌜ (length (now r) ≡ recordBytes) × (service ≡ serviceCode (now r)) ⌝ }
     ensures { λ x. ⌜ ((f : Totals) (ks : List ℕ) → x ≡ firstFault f ks (now (r .entry)) (tail30 (now (r .entry)))) ⌝ }
 {

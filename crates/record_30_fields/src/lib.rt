@@ -37,7 +37,8 @@ pub fn listed(service: u8, code: u8) -> bool
     (service == 4) & remitted(code)
 }
 
-fn is_number(account: Account) -> bool
+// The account's eleven bytes are digits.
+pub fn is_number(account: Account) -> bool
     ensures { λ x. ⌜ x ≡ isNumber account ⌝ }
 {
     match account {

@@ -17,7 +17,7 @@ use Rattle.make_rules.proofs.party.Lts as lts
 use Rattle.fields.proofs.account_at.Reads as account-at-reads
 use Rattle.fields.proofs.code_at.Reads as code-at-reads
 use Rattle.layout.proofs.account_found.Reads as account-found-reads
-use Rattle.make_rules.proofs.is_number.Reads as is-number-reads
+use Rattle.record_30_fields.proofs.is_number.Reads as is-number-reads
 use Rattle.make_rules.proofs.referred.Reads as referred-reads
 
 -- the third test, as the code makes it and as the rows have it
