@@ -95,3 +95,7 @@ draft-saved v out x after n p h = go (enough (bearing (linesOf v))) (sym h ∙ p
           saved = ap (take (recordBytes * n)) b ∙ take-at rs (drop (length rs) out) (recordBytes * n) l;
         }
     go (Fault x y) e b = absurd (refused-not-made _ n (sym e))
+
+-- no second answer fits
+pub one-answer-draft : (v out : List ℕ) (x y : Drafting) (xs ys : List ℕ) → DraftPromise v out x xs → DraftPromise v out y ys → (x ≡ y) × (xs ≡ ys)
+one-answer-draft v out x y xs ys p q = (p .answers ∙ sym (q .answers), p .leaves ∙ sym (q .leaves))

@@ -10,6 +10,7 @@ use crate::lines::past;
 use crate::lines::without_return;
 use crate::records::make_line;
 use layout::Finding;
+use limits::MOST_RECORDS;
 use limits::RECORD_BYTES;
 use operations::Making;
 use rules::Refusal;
@@ -54,14 +55,17 @@ fn count_bearing(values: &[u8]) -> u64
     n
 }
 
-// None is too few; a draft has at least an 88 and an 89 less than the longest file.
+// A draft has at least an 88 and an 89 less than the longest file.
+const MOST_DRAFTED: u64 = MOST_RECORDS as u64 - 2;
+
+// None is too few, and more than any file takes are too many.
 fn found_enough(n: u64) -> Finding
     ensures { λ x. ⌜ x ≡ enough n ⌝ }
 {
     if n == 0 {
         return Finding::Fault(2, 0);
     }
-    if n <= 199_998 {
+    if n <= MOST_DRAFTED {
         return Finding::Sound;
     }
     Finding::Fault(3, 0)
