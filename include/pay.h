@@ -152,7 +152,12 @@ void pay_make31(uint64_t service, uint64_t type, uint64_t number, const uint8_t 
 /* The payee's address. Places: service 2, type 2, transaction number 7, name 30, postal code 4, postal filler 3, area 25; the last four are texts. */
 void pay_make40(uint64_t service, uint64_t type, uint64_t number, const uint8_t *name, uint64_t name_length, const uint8_t *postal, uint64_t postal_length, const uint8_t *filler, uint64_t filler_length, const uint8_t *area, uint64_t area_length, uint8_t *out, uint64_t out_length, uint64_t answer[PAY_ANSWER]);
 
-/* A piece of a message. Places: service 2, type 2, transaction number 7, line 3, column 1, text 40. */
+/* The second half of the payee's address. Places: service 2, type 2, transaction number 7, first and second address line 30 each, country code 3; the last three are texts.
+ * The country code is blank for type 4. */
+void pay_make41(uint64_t service, uint64_t type, uint64_t number, const uint8_t *address1, uint64_t address1_length, const uint8_t *address2, uint64_t address2_length, const uint8_t *country, uint64_t country_length, uint8_t *out, uint64_t out_length, uint64_t answer[PAY_ANSWER]);
+
+/* A piece of a message. Places: service 2, type 2, transaction number 7, line 3, column 1, text 40.
+ * Line, column and text are fields 6, 7 and 8 in service 4; in any other they are fields 7, 8 and 9, behind the notification code, which is filled in. */
 void pay_make49(uint64_t service, uint64_t type, uint64_t number, uint64_t line, uint64_t column, const uint8_t *text, uint64_t text_length, uint8_t *out, uint64_t out_length, uint64_t answer[PAY_ANSWER]);
 
 /* A sub-specification. Places: service 2, type 2, transaction number 7, KID 25, amount 17. */

@@ -197,8 +197,12 @@ static void try_make(void)
     makes("make a 31", &ONE[2 * PAY_RECORD_BYTES]);
     pay_make40(4, 3, 1, BYTES("KARI"), BYTES("9008"), BYTES(""), BYTES("BODIN"), out, ROOM, answer);
     makes("make a 40", "NY0403400000001KARI                          9008   BODIN                    000\n");
+    pay_make41(4, 3, 1, BYTES("HAVNEGADE 7"), BYTES("2. SAL"), BYTES("DK"), out, ROOM, answer);
+    makes("make a 41", "NY0403410000001HAVNEGADE 7                   2. SAL                        DK 00\n");
     pay_make49(1, 3, 2, 1, 2, BYTES("IS"), out, ROOM, answer);
     makes("make a 49", "NY010349000000230012IS                                      00000000000000000000\n");
+    pay_make49(4, 3, 2, 1, 2, BYTES("IS"), out, ROOM, answer);
+    makes("make a 49 of service 04", "NY04034900000020012IS                                      000000000000000000000\n");
     pay_make50(4, 17, 4, BYTES("12345"), 20000, out, ROOM, answer);
     makes("make a 50", "NY0417500000004                    123450000000000002000000000000000000000000000\n");
 }
@@ -216,8 +220,12 @@ static void try_make_refused(void)
     refuses("make a 31 with a name of eleven", PAY_TOO_LONG, 0, 0, 6);
     pay_make40(4, 4, 1, BYTES("KARI"), BYTES("9008"), BYTES(""), BYTES(""), out, ROOM, answer);
     refuses("make a 40 of type 04 without an area", PAY_BAD_FORM, 0, 0, 9);
+    pay_make41(4, 4, 1, BYTES("HAVNEGADE 7"), BYTES(""), BYTES("DK"), out, ROOM, answer);
+    refuses("make a 41 of type 04 with a country", PAY_BAD_FORM, 0, 0, 8);
     pay_make49(1, 3, 2, 0, 2, BYTES("IS"), out, ROOM, answer);
     refuses("make a 49 without a line", PAY_BAD_FIXED, 0, 0, 7);
+    pay_make49(4, 3, 2, 0, 2, BYTES("IS"), out, ROOM, answer);
+    refuses("make a 49 of service 04 without a line", PAY_BAD_FIXED, 0, 0, 6);
     pay_make50(4, 17, 4, BYTES("12345"), 20000, out, PAY_RECORD_BYTES - 1, answer);
     refuses("make a 50 with too little room", PAY_OUTPUT_TOO_SHORT, 0, 0, 0);
 }
@@ -231,6 +239,8 @@ static void try_make_nothing(uint8_t *any)
     refuses("make a 31 of nothing", PAY_OUTPUT_TOO_SHORT, 0, 0, 0);
     pay_make40(4, 3, 1, any, 0, any, 0, any, 0, any, 0, any, 0, answer);
     refuses("make a 40 of nothing", PAY_OUTPUT_TOO_SHORT, 0, 0, 0);
+    pay_make41(4, 3, 1, any, 0, any, 0, any, 0, any, 0, answer);
+    refuses("make a 41 of nothing", PAY_OUTPUT_TOO_SHORT, 0, 0, 0);
     pay_make30(4, 2, 1, 11125, any, 0, 0, any, 0, out, ROOM, answer);
     refuses("make a 30 to nobody", PAY_BAD_FORM, 0, 0, 7);
     pay_make50(4, 16, 1, any, 0, 0, out, ROOM, answer);

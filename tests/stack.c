@@ -64,7 +64,9 @@ static void run_make(void)
     pay_make30(4, 2, 1, 11125, TEXT("12345678903"), 80000, TEXT(""), out, ROOM, answer);
     pay_make31(4, 2, 1, TEXT("MAKRELL"), TEXT("LANDING 441"), TEXT("TORSK UKE 44"), out, ROOM, answer);
     pay_make40(4, 3, 1, TEXT("KARI HANSEN"), TEXT("9008"), TEXT(""), TEXT("BODIN"), out, ROOM, answer);
+    pay_make41(4, 3, 1, TEXT("HAVNEGADE 7"), TEXT("2. SAL"), TEXT("DK"), out, ROOM, answer);
     pay_make49(1, 3, 2, 1, 2, TEXT("IS OKTOBER"), out, ROOM, answer);
+    pay_make49(4, 3, 2, 1, 2, TEXT("TORSK UKE 44"), out, ROOM, answer);
     pay_make50(4, 16, 4, TEXT("00012345686"), 50000, out, ROOM, answer);
 }
 

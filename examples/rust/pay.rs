@@ -106,6 +106,20 @@ unsafe extern "C" {
         out_length: u64,
         answer: *mut [u64; 16],
     );
+    fn pay_make41(
+        service: u64,
+        r#type: u64,
+        number: u64,
+        address1: *const u8,
+        address1_length: u64,
+        address2: *const u8,
+        address2_length: u64,
+        country: *const u8,
+        country_length: u64,
+        out: *mut u8,
+        out_length: u64,
+        answer: *mut [u64; 16],
+    );
     fn pay_make49(
         service: u64,
         r#type: u64,
@@ -427,7 +441,36 @@ pub fn make40(
     made(&answer)
 }
 
-/// A piece of a message.
+/// The second half of the payee's address: first and second address line, country code.
+pub fn make41(
+    of: Transaction,
+    address1: &[u8],
+    address2: &[u8],
+    country: &[u8],
+    out: &mut [u8],
+) -> Result<usize, Refused> {
+    let mut answer = [0; PAY_ANSWER];
+    // SAFETY: as above.
+    unsafe {
+        pay_make41(
+            of.service,
+            of.code,
+            of.number,
+            address1.as_ptr(),
+            address1.len() as u64,
+            address2.as_ptr(),
+            address2.len() as u64,
+            country.as_ptr(),
+            country.len() as u64,
+            out.as_mut_ptr(),
+            out.len() as u64,
+            &mut answer,
+        )
+    };
+    made(&answer)
+}
+
+/// A piece of a message. Its line, column and text are fields 6, 7 and 8 in service 4, else 7, 8 and 9.
 pub fn make49(
     of: Transaction,
     line: u64,
@@ -552,10 +595,12 @@ mod tests {
         same(2, &|out| make20(4, 1, 1, 12345678903, out));
         same(3, &|out| make30(pay(3, 1), 11125, b"11111111113", 125000, b"", out));
         same(4, &|out| make31(pay(3, 1), b"HANSEN", b"LANDING 441", b"TORSK UKE 44", out));
-        same(5, &|out| make40(pay(3, 1), b"KARI HANSEN", b"9008", b"", b"TROMS\xd8", out));
-        same(9, &|out| make30(pay(12, 3), 101125, b"22222222226", 45050, b"00012345678", out));
-        same(13, &|out| make50(pay(16, 4), b"00012345686", 50000, out));
-        same(22, &|out| make49(draw(2), 1, 1, b"IS OKTOBER: 350 KG", out));
+        same(5, &|out| make40(pay(3, 1), b"KARI HANSEN", b"7680", b"", b"THYBOR\xd8N", out));
+        same(6, &|out| make41(pay(3, 1), b"HAVNEGADE 7", b"", b"DK", out));
+        same(7, &|out| make49(pay(3, 1), 1, 1, b"TORSK UKE 44: 50 KG", out));
+        same(13, &|out| make30(pay(12, 3), 101125, b"22222222226", 45050, b"00012345678", out));
+        same(17, &|out| make50(pay(16, 4), b"00012345686", 50000, out));
+        same(26, &|out| make49(draw(2), 1, 1, b"IS OKTOBER: 350 KG", out));
     }
 
     #[test]
@@ -566,6 +611,9 @@ mod tests {
         assert_eq!(make10(100000000, 1, &mut out), Err(fault(22, 0, 0, 5)));
         assert_eq!(make20(4, 1, 1, 12345678904, &mut out), Err(fault(11, 0, 0, 7)));
         assert_eq!(make49(claim, 22, 1, b"", &mut out), Err(fault(7, 0, 0, 7)));
+        let slip = Transaction { service: 4, code: 4, number: 1 };
+        assert_eq!(make41(slip, b"HAMNGATAN 5", b"", b"SE", &mut out), Err(fault(8, 0, 0, 8)));
+        assert_eq!(make49(slip, 22, 1, b"", &mut out), Err(fault(7, 0, 0, 6)));
         assert_eq!(make10(12345, 1, &mut out[..80]), Err(fault(19, 0, 0, 0)));
         assert_eq!(out, before);
     }

@@ -109,6 +109,20 @@ unsafe extern "C" {
         out_length: u64,
         answer: *mut [u64; 16],
     );
+    fn pay_make41(
+        service: u64,
+        r#type: u64,
+        number: u64,
+        address1: *const u8,
+        address1_length: u64,
+        address2: *const u8,
+        address2_length: u64,
+        country: *const u8,
+        country_length: u64,
+        out: *mut u8,
+        out_length: u64,
+        answer: *mut [u64; 16],
+    );
     fn pay_make49(
         service: u64,
         r#type: u64,
@@ -135,8 +149,9 @@ unsafe extern "C" {
 }
 
 /// Whether the archive makes records of every type.
-const MAKES_ALL: bool =
-    cfg!(all(pay_make10, pay_make20, pay_make30, pay_make31, pay_make40, pay_make49, pay_make50));
+const MAKES_ALL: bool = cfg!(all(
+    pay_make10, pay_make20, pay_make30, pay_make31, pay_make40, pay_make41, pay_make49, pay_make50
+));
 
 /// The operations that the archive has.
 pub fn operations() -> Vec<Operation> {
@@ -150,6 +165,7 @@ pub fn operations() -> Vec<Operation> {
         Operation::Make30 => cfg!(pay_make30),
         Operation::Make31 => cfg!(pay_make31),
         Operation::Make40 => cfg!(pay_make40),
+        Operation::Make41 => cfg!(pay_make41),
         Operation::Make49 => cfg!(pay_make49),
         Operation::Make50 => cfg!(pay_make50),
         Operation::MakeDraft => MAKES_ALL,
@@ -232,6 +248,8 @@ pub fn make(values: Values, out: &mut [u8], answer: *mut Answer) -> bool {
         Values::Amount2 { service, code, number, texts: [six, seven, eight] } => unsafe { pay_make31(service, code, number, six.as_ptr(), length(six), seven.as_ptr(), length(seven), eight.as_ptr(), length(eight), out, out_length, answer) },
         #[cfg(pay_make40)]
         Values::Address { service, code, number, name, postal, filler, area } => unsafe { pay_make40(service, code, number, name.as_ptr(), length(name), postal.as_ptr(), length(postal), filler.as_ptr(), length(filler), area.as_ptr(), length(area), out, out_length, answer) },
+        #[cfg(pay_make41)]
+        Values::Address2 { service, code, number, address1, address2, country } => unsafe { pay_make41(service, code, number, address1.as_ptr(), length(address1), address2.as_ptr(), length(address2), country.as_ptr(), length(country), out, out_length, answer) },
         #[cfg(pay_make49)]
         Values::Message { service, code, number, line, column, text } => unsafe { pay_make49(service, code, number, line, column, text.as_ptr(), length(text), out, out_length, answer) },
         #[cfg(pay_make50)]

@@ -21,14 +21,15 @@ pub enum Operation {
     Make30,
     Make31,
     Make40,
+    Make41,
     Make49,
     Make50,
-    /// No operation of its own: the records of lines, each made by one of the seven.
+    /// No operation of its own: the records of lines, each made by one of the eight.
     MakeDraft,
 }
 
 impl Operation {
-    pub const ALL: [Self; 12] = [
+    pub const ALL: [Self; 13] = [
         Self::Check,
         Self::Close,
         Self::Join,
@@ -38,6 +39,7 @@ impl Operation {
         Self::Make30,
         Self::Make31,
         Self::Make40,
+        Self::Make41,
         Self::Make49,
         Self::Make50,
         Self::MakeDraft,
@@ -54,6 +56,7 @@ impl Operation {
             Self::Make30 => "make30",
             Self::Make31 => "make31",
             Self::Make40 => "make40",
+            Self::Make41 => "make41",
             Self::Make49 => "make49",
             Self::Make50 => "make50",
             Self::MakeDraft => "make",
@@ -68,6 +71,7 @@ impl Operation {
             Self::Make30 => Some(b"30"),
             Self::Make31 => Some(b"31"),
             Self::Make40 => Some(b"40"),
+            Self::Make41 => Some(b"41"),
             Self::Make49 => Some(b"49"),
             Self::Make50 => Some(b"50"),
             _ => None,
@@ -119,6 +123,9 @@ impl Case {
             }
             (Operation::Make40, &[service, code, number], &[name, postal, filler, area]) => {
                 Values::Address { service, code, number, name, postal, filler, area }
+            }
+            (Operation::Make41, &[service, code, number], &[address1, address2, country]) => {
+                Values::Address2 { service, code, number, address1, address2, country }
             }
             (Operation::Make49, &[service, code, number, line, column], &[text]) => {
                 Values::Message { service, code, number, line, column, text }
@@ -249,6 +256,7 @@ fn plan(random: &mut Random, day: Day) -> Plan {
         transactions: random.pick(&[1, 1, 2, 3, 5]),
         records: None,
         extras: random.pick(&[0, 40, 100]),
+        notices: random.pick(&[0, 50, 100, 100]),
         extremes: random.percent(50),
     }
 }

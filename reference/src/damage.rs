@@ -8,8 +8,8 @@ use crate::records::kind;
 const BYTES: &[u8] = b"0123456789 NYx-\n\r\t\x7f\x80\x9f\xa0\xff\x00\x1f/:";
 
 const KINDS: &[[u8; 2]] = &[
-    *b"10", *b"20", *b"30", *b"31", *b"40", *b"49", *b"50", *b"88", *b"89", *b"00", *b"32", *b"41",
-    *b"  ", *b"3 ", *b"8x",
+    *b"10", *b"20", *b"30", *b"31", *b"40", *b"41", *b"49", *b"50", *b"88", *b"89", *b"00", *b"32",
+    *b"42", *b"  ", *b"3 ", *b"8x",
 ];
 
 const CODES: &[[u8; 2]] = &[
@@ -19,8 +19,8 @@ const CODES: &[[u8; 2]] = &[
 
 /// Where the fields of a record lie: first and last position of each, field 1
 /// first. A record of no type has one field.
-pub fn fields(kind: [u8; 2]) -> &'static [(usize, usize)] {
-    match &kind {
+fn fields(record: &[u8]) -> &'static [(usize, usize)] {
+    match &kind(record) {
         b"10" => &[(1, 2), (3, 4), (5, 6), (7, 8), (9, 16), (17, 23), (24, 31), (32, 80)],
         b"20" => &[(1, 2), (3, 4), (5, 6), (7, 8), (9, 17), (18, 24), (25, 35), (36, 80)],
         b"30" => &[
@@ -48,6 +48,10 @@ pub fn fields(kind: [u8; 2]) -> &'static [(usize, usize)] {
             (53, 77),
             (78, 80),
         ],
+        b"41" => &[(1, 2), (3, 4), (5, 6), (7, 8), (9, 15), (16, 45), (46, 75), (76, 78), (79, 80)],
+        b"49" if record[2..4] == *b"04" => {
+            &[(1, 2), (3, 4), (5, 6), (7, 8), (9, 15), (16, 18), (19, 19), (20, 59), (60, 80)]
+        }
         b"49" => &[
             (1, 2),
             (3, 4),
@@ -168,8 +172,32 @@ fn damage_record(random: &mut Random, record: &mut [u8]) {
         record[RECORD - 1] = random.pick(BYTES);
         return;
     }
-    let (from, to) = random.pick(fields(kind(record)));
+    let (from, to) = random.pick(fields(record));
     damage_field(random, &mut record[from - 1..to]);
+}
+
+/// Puts a byte that is no letter into a field, or in the place of the line feed: wrong wherever
+/// it stands.
+fn spoil(random: &mut Random, record: &mut [u8]) {
+    let fields = fields(record);
+    let (from, to) = *fields.get(random.index(fields.len() + 1)).unwrap_or(&(RECORD, RECORD));
+    record[from - 1 + random.index(to + 1 - from)] = random.pick(b"\x00\x1f\x7f\x80\x9f");
+}
+
+/// Whether this is a 41, or a 49 of service 04.
+fn is_notice(record: &[u8]) -> bool {
+    matches!((&record[2..4], &record[6..8]), (_, b"41") | (b"04", b"49"))
+}
+
+/// Where a record begins: any, or one of those that may stand behind a 40.
+fn some_record(random: &mut Random, data: &[u8]) -> usize {
+    let any = random.index(data.len() / RECORD) * RECORD;
+    if random.percent(60) {
+        return any;
+    }
+    let starts = (0..data.len() / RECORD).map(|index| index * RECORD);
+    let notices: Vec<usize> = starts.filter(|&at| is_notice(&data[at..])).collect();
+    if notices.is_empty() { any } else { random.pick(&notices) }
 }
 
 /// Copies a field from another record of the same type, where there is one.
@@ -179,7 +207,7 @@ fn copy_field(random: &mut Random, data: &mut [u8], record: usize) {
         .map(|index| index * RECORD)
         .filter(|&at| kind(&data[at..]) == wanted)
         .collect();
-    let (from, to) = random.pick(fields(wanted));
+    let (from, to) = random.pick(fields(&data[record..]));
     let other = random.pick(&alike);
     data.copy_within(other + from - 1..other + to, record + from - 1);
     // An assignment's key is two fields.
@@ -211,12 +239,18 @@ fn damage_meaning(random: &mut Random, data: &mut [u8], record: usize) {
             }
         },
         b"49" => {
+            // Line and column, by the layout of the service.
+            let from = if data[record + 2..record + 4] == *b"04" { 16 } else { 17 };
             let place = format!("{:03}{}", random.below(24), random.below(4));
-            set(data, record, 17, &place);
+            set(data, record, from, &place);
             let neighbour = record.saturating_sub(RECORD);
             if random.percent(60) && kind(&data[neighbour..]) == *b"49" {
-                data.copy_within(neighbour + 16..neighbour + 20, record + 16);
+                data.copy_within(neighbour + from - 1..neighbour + from + 3, record + from - 1);
             }
+        }
+        b"41" => {
+            let (from, to) = random.pick(&[(16, 45), (46, 75), (76, 78), (76, 78)]);
+            data[record + from - 1..record + to].fill(random.pick(b" 0\xa0\x7f"));
         }
         b"50" => match random.below(4) {
             0 => set(data, record, 5, random.pick(&["16", "17"])),
@@ -240,9 +274,10 @@ pub fn damage(random: &mut Random, data: &mut Vec<u8>) {
     if records == 0 {
         return;
     }
-    let record = random.index(records) * RECORD;
-    match random.below(32) {
+    let record = some_record(random, data);
+    match random.below(36) {
         24..=31 => damage_meaning(random, data, record),
+        32..=35 => spoil(random, &mut data[record..record + RECORD]),
         0..=9 => damage_record(random, &mut data[record..record + RECORD]),
         10 | 11 => {
             // Two faults in one record.
@@ -286,7 +321,8 @@ fn change_type(random: &mut Random, data: &mut [u8], record: usize) {
     let code = random.pick(CODES);
     let number = data[record + 8..record + 15].to_vec();
     for other in data[record..].chunks_exact_mut(RECORD) {
-        if other[8..15] != number || !matches!(&other[6..8], b"30" | b"31" | b"40" | b"49") {
+        if other[8..15] != number || !matches!(&other[6..8], b"30" | b"31" | b"40" | b"41" | b"49")
+        {
             break;
         }
         other[4..6].copy_from_slice(&code);

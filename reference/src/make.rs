@@ -8,7 +8,7 @@ use crate::checker::{
     Fault, Payment, Record, Service, account, at, demand, fault, texts as sound_texts,
 };
 use crate::date::Date;
-use crate::field::{Kid, is_text};
+use crate::field::Kid;
 use crate::figures::Ore;
 use crate::{RECORD, Refused};
 
@@ -226,6 +226,28 @@ pub fn make40(
     deliver(&record, out)
 }
 
+pub fn make41(
+    service: u64,
+    code: u64,
+    number: u64,
+    address1: &[u8],
+    address2: &[u8],
+    country: &[u8],
+    out: &mut [u8],
+) -> Making {
+    places_of_head(service, code, number)?;
+    bytes(address1, 30, 6)?;
+    bytes(address2, 30, 7)?;
+    bytes(country, 3, 8)?;
+    let mut record = head(b"41", service, code, number);
+    put_left(field!(record, 16..=45), address1);
+    put_left(field!(record, 46..=75), address2);
+    put_left(field!(record, 76..=78), country);
+    payment_of(&record)?.address2(&record)?;
+    deliver(&record, out)
+}
+
+/// By the layout of its service; what is no service has service 01's.
 pub fn make49(
     service: u64,
     code: u64,
@@ -236,18 +258,26 @@ pub fn make49(
     out: &mut [u8],
 ) -> Making {
     places_of_head(service, code, number)?;
-    places(line, 3, 7)?;
-    places(column, 1, 8)?;
-    bytes(text, 40, 9)?;
+    // Service 01 has a notification code before the line.
+    let field = if service == 4 { 6 } else { 7 };
+    places(line, 3, field)?;
+    places(column, 1, field + 1)?;
+    bytes(text, 40, field + 2)?;
     let mut record = head(b"49", service, code, number);
-    put(field!(record, 16..=16), 3);
-    put(field!(record, 17..=19), line);
-    put(field!(record, 20..=20), column);
-    put_left(field!(record, 21..=60), text);
+    if service == 4 {
+        put(field!(record, 16..=18), line);
+        put(field!(record, 19..=19), column);
+        put_left(field!(record, 20..=59), text);
+    } else {
+        put(field!(record, 16..=16), 3);
+        put(field!(record, 17..=19), line);
+        put(field!(record, 20..=20), column);
+        put_left(field!(record, 21..=60), text);
+    }
     payment_of(&record)?;
-    demand((1..=21).contains(&line), 7, 7)?;
-    demand((1..=2).contains(&column), 7, 8)?;
-    demand(is_text(at!(record, 21..=60)), 8, 9)?;
+    let service = service_of(&record)?;
+    service.place(&record)?;
+    service.message(&record)?;
     deliver(&record, out)
 }
 
@@ -313,6 +343,14 @@ pub enum Values<'a> {
         filler: &'a [u8],
         area: &'a [u8],
     },
+    Address2 {
+        service: u64,
+        code: u64,
+        number: u64,
+        address1: &'a [u8],
+        address2: &'a [u8],
+        country: &'a [u8],
+    },
     Message {
         service: u64,
         code: u64,
@@ -346,6 +384,9 @@ pub fn make(values: Values, out: &mut [u8]) -> Making {
         }
         Values::Address { service, code, number, name, postal, filler, area } => {
             make40(service, code, number, name, postal, filler, area, out)
+        }
+        Values::Address2 { service, code, number, address1, address2, country } => {
+            make41(service, code, number, address1, address2, country, out)
         }
         Values::Message { service, code, number, line, column, text } => {
             make49(service, code, number, line, column, text, out)
@@ -399,6 +440,22 @@ impl<'a> Values<'a> {
                 filler: at!(r, 50..=52),
                 area: at!(r, 53..=77),
             },
+            b"41" => Self::Address2 {
+                service,
+                code,
+                number,
+                address1: at!(r, 16..=45),
+                address2: at!(r, 46..=75),
+                country: at!(r, 76..=78),
+            },
+            b"49" if service == 4 => Self::Message {
+                service,
+                code,
+                number,
+                line: number_in(at!(r, 16..=18)),
+                column: number_in(at!(r, 19..=19)),
+                text: at!(r, 20..=59),
+            },
             b"49" => Self::Message {
                 service,
                 code,
@@ -437,6 +494,9 @@ impl<'a> Values<'a> {
             Self::Amount2 { texts, .. } => texts.iter_mut().for_each(left),
             Self::Address { name, postal, filler, area, .. } => {
                 [name, postal, filler, area].into_iter().for_each(left);
+            }
+            Self::Address2 { address1, address2, country, .. } => {
+                [address1, address2, country].into_iter().for_each(left);
             }
             Self::Message { text, .. } => left(text),
             Self::SubSpec { kid, .. } => right(kid),
@@ -512,7 +572,8 @@ enum Column {
     Text(u8),
 }
 
-fn columns(kind: &[u8]) -> Option<&'static [Column]> {
+/// The columns behind the type. Those of a 49 are by its service.
+fn columns(kind: &[u8], service: Option<u64>) -> Option<&'static [Column]> {
     use Column::{Number, Text};
     Some(match kind {
         b"10" => &[Number(5), Number(6)],
@@ -520,6 +581,10 @@ fn columns(kind: &[u8]) -> Option<&'static [Column]> {
         b"30" => &[Number(2), Number(3), Number(5), Number(6), Text(7), Number(8), Text(9)],
         b"31" => &[Number(2), Number(3), Number(5), Text(6), Text(7), Text(8)],
         b"40" => &[Number(2), Number(3), Number(5), Text(6), Text(7), Text(8), Text(9)],
+        b"41" => &[Number(2), Number(3), Number(5), Text(6), Text(7), Text(8)],
+        b"49" if service == Some(4) => {
+            &[Number(2), Number(3), Number(5), Number(6), Number(7), Text(8)]
+        }
         b"49" => &[Number(2), Number(3), Number(5), Number(7), Number(8), Text(9)],
         b"50" => &[Number(2), Number(3), Number(5), Text(6), Number(7)],
         _ => return None,
@@ -530,7 +595,8 @@ fn columns(kind: &[u8]) -> Option<&'static [Column]> {
 fn read(line: &[u8]) -> Result<Values<'_>, Fault> {
     let mut parts = line.split(|&byte| byte == b';');
     let kind = parts.next().unwrap_or_default();
-    let columns = columns(kind).ok_or_else(|| fault(7, 4))?;
+    let service = parts.clone().next().and_then(number_of);
+    let columns = columns(kind, service).ok_or_else(|| fault(7, 4))?;
 
     let mut texts: [&[u8]; 7] = [b""; 7];
     for (text, &(Column::Number(field) | Column::Text(field))) in texts.iter_mut().zip(columns) {
@@ -571,6 +637,14 @@ fn read(line: &[u8]) -> Result<Values<'_>, Fault> {
             postal: texts[4],
             filler: texts[5],
             area: texts[6],
+        },
+        b"41" => Values::Address2 {
+            service,
+            code,
+            number,
+            address1: texts[3],
+            address2: texts[4],
+            country: texts[5],
         },
         b"49" => Values::Message {
             service,

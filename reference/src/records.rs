@@ -33,8 +33,19 @@ pub fn r40(code: &str, number: u32) -> String {
     format!("NY04{code}40{number:07}{:<30}0150   {:<25}000", "KARI NORDMANN", "OSLO")
 }
 
+pub fn r41(code: &str, number: u32) -> String {
+    let country = if code == "04" { "" } else { "SE" };
+    format!("NY04{code}41{number:07}{:<30}{:<30}{country:<3}00", "POSTBOKS 7", "KAI 3")
+}
+
+/// A 49 of service 01.
 pub fn r49(number: u32, line: u32, column: u32) -> String {
     format!("NY010349{number:07}3{line:03}{column}{:<40}{}", "TEKST", "0".repeat(20))
+}
+
+/// A 49 of service 04.
+pub fn r49_04(code: &str, number: u32, line: u32, column: u32) -> String {
+    format!("NY04{code}49{number:07}{line:03}{column}{:<40}{}", "TEKST", "0".repeat(21))
 }
 
 pub fn r50(code: &str, number: u32, amount: u64) -> String {
@@ -176,7 +187,7 @@ pub fn whole() -> Vec<u8> {
     .into_bytes()
 }
 
-/// A file with every kind of record: 1 10, 2 20 (04), 3 30 (16), 4 31, 5 50, 6 50 (17),
+/// A file with every kind of record that document 01 has: 1 10, 2 20 (04), 3 30 (16), 4 31, 5 50, 6 50 (17),
 /// 7 30 (04), 8 31, 9 40, 10 30 (03), 11 31, 12 40, 13 30 (12), 14 31, 15 88,
 /// 16 20 (01), 17 30 (03), 18 31, 19 49, 20 49, 21 30 (02), 22 31, 23 88, 24 89.
 pub fn every_kind() -> Vec<u8> {
@@ -203,6 +214,28 @@ pub fn every_kind() -> Vec<u8> {
         r30("01", "02", 2, "011024", 500, "99"),
         r31("01", "02", 2),
     ]))
+}
+
+/// A file with second addresses and messages of service 04: 1 10, 2 20, 3 30 (03), 4 31, 5 40,
+/// 6 41, 7 49, 8 49, 9 30 (04), 10 31, 11 40, 12 41, 13 49, 14 30 (03), 15 31, 16 40, 17 41,
+/// 18 30 (04), 19 31, 20 40, 21 49, 22 30 (03), 23 31, 24 40, 25 49, 26 88, 27 89.
+pub fn notified() -> Vec<u8> {
+    let mut lines = vec![r10(), r20("04", 9, 1)];
+    let codes = ["03", "04", "03", "04", "03"];
+    for (number, code) in (1..).zip(codes) {
+        lines.push(r30("04", code, number, "011125", 100, ""));
+        lines.extend([r31("04", code, number), r40(code, number)]);
+        if number <= 3 {
+            lines.push(r41(code, number));
+        }
+        if number != 3 {
+            lines.push(r49_04(code, number, 21, 2));
+        }
+        if number == 1 {
+            lines.push(r49_04(code, number, 1, 1));
+        }
+    }
+    closed(&bytes(&lines))
 }
 
 /// The bytes with one field, from position to position, set to a text.

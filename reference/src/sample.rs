@@ -22,6 +22,8 @@ pub struct Plan {
     /// Of a hundred transactions, how many are of a type that has records 40,
     /// 49 or 50.
     pub extras: u64,
+    /// Of a hundred records 40, how many have a 41, records 49 or both behind them.
+    pub notices: u64,
     /// Whether values at the ends of what is allowed come up often.
     pub extremes: bool,
 }
@@ -35,7 +37,20 @@ impl Plan {
         transactions: 2_000,
         records: Some(200_000),
         extras: 17,
+        notices: 0,
         extremes: false,
+    };
+
+    /// A file of service 04 alone in which most payments have addresses and messages: 50,000
+    /// records, one assignment, 11,750 transactions.
+    pub const NOTICES: Self = Self {
+        seed: 1,
+        assignments: 1,
+        transactions: 11_750,
+        records: Some(50_000),
+        extras: 100,
+        notices: 100,
+        ..Self::SEASON
     };
 
     /// A file like a season's with so many records and assignments.
@@ -228,7 +243,7 @@ impl Maker {
         match (service, code) {
             ("04", "04") => self.address(code, &number, true),
             ("04", "03") if self.random.percent(70) => self.address(code, &number, false),
-            ("01", "03") => self.message(&number),
+            ("01", "03") => self.message(code, &number),
             ("04", "16") => self.sub_specifications(&number, amount, extras),
             _ => {}
         }
@@ -247,17 +262,47 @@ impl Maker {
         line.extend(if complete { self.name(25) } else { self.text(25) });
         line.extend(b"000");
         self.line(&line);
+        if self.plan.notices > 0 && self.random.percent(self.plan.notices) {
+            self.notice(code, number);
+        }
     }
 
-    fn message(&mut self, number: &str) {
+    /// What may stand behind a 40.
+    fn notice(&mut self, code: &str, number: &str) {
+        let which = self.random.below(4);
+        if which != 0 {
+            self.second_address(code, number);
+        }
+        if which != 1 {
+            self.message(code, number);
+        }
+    }
+
+    fn second_address(&mut self, code: &str, number: &str) {
+        let mut line = format!("NY04{code}41{number}").into_bytes();
+        line.extend(self.text(30));
+        line.extend(self.text(30));
+        line.extend(match code {
+            "04" => b"   ".to_vec(),
+            _ if self.random.percent(50) => self.text(3),
+            _ => self.random.pick(&[b"SE ", b"DK ", b"GBR", b" PL", b"   "]).to_vec(),
+        });
+        line.extend(b"00");
+        self.line(&line);
+    }
+
+    fn message(&mut self, code: &str, number: &str) {
         let places = if self.extreme(3) { 42 } else { self.random.below(4) };
         let first = self.random.below(42);
         for i in 0..places {
             let place = (first + 5 * i) % 42;
             let (line, column) = (place / 2 + 1, place % 2 + 1);
-            let mut line = format!("NY010349{number}3{line:03}{column}").into_bytes();
+            // Service 01 has a notification code before the line.
+            let notification = if self.service == "01" { "3" } else { "" };
+            let head = format!("NY{}{code}49{number}{notification}", self.service);
+            let mut line = format!("{head}{line:03}{column}").into_bytes();
             line.extend(self.text(40));
-            line.extend(b"00000000000000000000");
+            line.resize(RECORD - 1, b'0');
             self.line(&line);
         }
     }
@@ -402,4 +447,31 @@ pub fn file(plan: Plan) -> Vec<u8> {
 pub fn draft_and_file(plan: Plan) -> (Vec<u8>, Vec<u8>) {
     let file = file(plan);
     (draft(&file), file)
+}
+
+#[cfg(test)]
+mod tests {
+    use super::*;
+    use crate::records::count;
+
+    #[test]
+    fn a_file_with_notices() {
+        let (draft, file) = draft_and_file(Plan::NOTICES);
+        assert_eq!((count(&file, b"30"), file.len() / RECORD), (11_750, 50_000));
+        assert!(draft[RECORD..].chunks(RECORD).all(|record| record[2..4] == *b"04"));
+        let counts = [b"40", b"41", b"49"].map(|kind| count(&file, kind));
+        assert_eq!(counts, [7_103, 5_358, 8_166]);
+    }
+
+    /// What is measured stays the same file, whatever other files have in them.
+    #[test]
+    fn the_seasons_file_stays() {
+        let number = |bytes: &[u8]| {
+            bytes.iter().fold(0u64, |n, &byte| n.wrapping_mul(31).wrapping_add(byte.into()))
+        };
+        let (draft, file) = draft_and_file(Plan::SEASON);
+        assert_eq!((draft.len() / RECORD, file.len() / RECORD), (199_954, 200_000));
+        let numbers = (16_657_496_608_773_999_916, 9_754_531_626_570_050_998);
+        assert_eq!((number(&draft), number(&file)), numbers);
+    }
 }

@@ -48,6 +48,8 @@ fn slots(kind: &[u8; 2], complete: bool) -> (Vec<Number>, Vec<Text>) {
         b"31" => (with(&[]), vec![Text::Of(10), Text::Of(25), Text::Of(25)]),
         b"40" if complete => (with(&[]), vec![Name(30), Digits(4), Blanks(3), Name(25)]),
         b"40" => (with(&[]), vec![Text::Of(30), Digits(4), Digits(3), Text::Of(25)]),
+        b"41" if complete => (with(&[]), vec![Text::Of(30), Text::Of(30), Blanks(3)]),
+        b"41" => (with(&[]), vec![Text::Of(30), Text::Of(30), Text::Of(3)]),
         b"49" => (with(&[Line, Column]), vec![Text::Of(40)]),
         _ => (vec![Service, SideType, Number::Of(7), Amount], vec![Kid]),
     }
@@ -301,7 +303,7 @@ impl Till<'_> {
         let lengths = [0, 1, width - 1, width, width, fits, fits, width + 1, width + 2, 300, any];
         let length = self.random.pick(&lengths);
         let mut sound = self.text(slot);
-        match self.random.below(12) {
+        match self.random.below(14) {
             // Too long by blanks, before or behind.
             0 => {
                 sound.resize(width + 1, b' ');
@@ -339,6 +341,13 @@ impl Till<'_> {
                 _ => vec![b' '; width],
             },
             10 => self.random.digits(width).into(),
+            // It fits, and one byte is no letter.
+            11 | 12 => {
+                let mut text = self.letters(fits.max(1));
+                let at = self.random.index(text.len());
+                text[at] = self.random.pick(&[0, 10, 31, 127, 128, 159]);
+                text
+            }
             _ => {
                 let last = self.random.index(2);
                 sound.truncate(sound.len().saturating_sub(last));
@@ -369,6 +378,9 @@ fn words(values: Values) -> Vec<Vec<u8>> {
         }
         Values::Address { service, code, number, name, postal, filler, area } => {
             with(head(b"40", service, code, number), [name, postal, filler, area].map(t).into())
+        }
+        Values::Address2 { service, code, number, address1, address2, country } => {
+            with(head(b"41", service, code, number), [address1, address2, country].map(t).into())
         }
         Values::Message { service, code, number, line, column, text } => {
             with(head(b"49", service, code, number), vec![n(line), n(column), t(text)])

@@ -9,6 +9,7 @@ use reference::damage::damage;
 use reference::random::Random;
 use reference::sample::{Plan, file};
 use reference::{RECORD, Variant};
+use std::collections::HashSet;
 
 fn plan(seed: u64) -> Plan {
     let mut random = Random(seed);
@@ -19,6 +20,7 @@ fn plan(seed: u64) -> Plan {
         transactions: 1 + random.below(8) as u32,
         records: None,
         extras: 50,
+        notices: 50,
         extremes: true,
     }
 }
@@ -112,7 +114,7 @@ fn places(operation: Operation, what: u64) -> &'static [Place] {
         (1, Operation::Close | Operation::Join) => &[What, Assignments, Transactions, Records, Sum, FirstDate, Written],
         (2, Operation::Part) => &[What, Written, WrittenSecond],
         (3, Operation::MakeDraft) => &[What, Records, Written],
-        (3, Operation::Make10 | Operation::Make20 | Operation::Make30 | Operation::Make31 | Operation::Make40 | Operation::Make49 | Operation::Make50) => &[What, Written],
+        (3, Operation::Make10 | Operation::Make20 | Operation::Make30 | Operation::Make31 | Operation::Make40 | Operation::Make41 | Operation::Make49 | Operation::Make50) => &[What, Written],
         _ => panic!("{operation:?} answers {what}"),
     }
 }
@@ -146,4 +148,49 @@ fn cases_of_every_operation() {
         seen[Place::Number.of(&answer) as usize] += 1;
     }
     assert!(seen.iter().all(|&count| count > 0), "{seen:?}");
+}
+
+/// Numbers and fields of the refusals of a 41, of a 49 of service 04 (12 at field 2 among those
+/// of service 01), and of making them.
+type Refusals = &'static [(u64, u64)];
+#[rustfmt::skip]
+const OF_41: Refusals = &[(4, 0), (5, 4), (7, 1), (12, 2), (12, 3), (8, 5), (12, 5), (8, 6), (8, 7), (8, 8), (7, 9)];
+#[rustfmt::skip]
+const OF_49: Refusals = &[(4, 0), (5, 4), (7, 1), (12, 2), (12, 3), (8, 5), (12, 5), (7, 6), (7, 7), (17, 7), (8, 8), (7, 9)];
+#[rustfmt::skip]
+const OF_MAKE41: Refusals = &[(22, 2), (22, 3), (22, 5), (22, 6), (22, 7), (22, 8), (7, 2), (7, 3), (8, 6), (8, 7), (8, 8), (19, 0)];
+#[rustfmt::skip]
+const OF_MAKE49: Refusals = &[(22, 3), (22, 5), (22, 6), (22, 7), (22, 8), (7, 3), (7, 6), (7, 7), (8, 8), (19, 0)];
+
+/// The cases of the comparison come to every refusal of a 41 and of a 49 in service 04.
+#[test]
+fn cases_with_second_addresses_and_messages() {
+    let mut seen = HashSet::new();
+    for index in 0..40_000 {
+        let case = case(2, index, &Operation::ALL);
+        let [mut one, mut two] = case.rooms.map(|room| vec![FILLER; room]);
+        let answer = answer(&case, Variant::PLAIN, &mut one, &mut two);
+        let refusal = (Place::Number.of(&answer), Place::Field.of(&answer));
+        let data = if Place::Operand.of(&answer) == 2 { &case.second } else { &case.first };
+        let record = (Place::Record.of(&answer) as usize).checked_sub(1);
+        let record = record.and_then(|record| data.get(record * RECORD..)?.get(..RECORD));
+        let wanted = match (case.operation, record) {
+            (Operation::Make41, _) => OF_MAKE41,
+            (Operation::Make49, _) if case.numbers[0] == 4 => OF_MAKE49,
+            (Operation::MakeDraft, _) | (_, None) => continue,
+            (_, Some(record)) => match (&record[2..4], &record[6..8]) {
+                (_, b"41") => OF_41,
+                (b"04", b"49") => OF_49,
+                _ => continue,
+            },
+        };
+        seen.insert((wanted, refusal));
+    }
+    for wanted in [OF_41, OF_49, OF_MAKE41, OF_MAKE49] {
+        for &refusal in wanted {
+            assert!(seen.contains(&(wanted, refusal)), "{refusal:?} of {wanted:?}");
+        }
+    }
+    // Nothing else is given, but that a making is sound.
+    assert!(seen.iter().all(|(of, refusal)| of.contains(refusal) || *refusal == (0, 0)));
 }

@@ -236,7 +236,8 @@ fn lengths() {
 /// All orders of two and three records after sound beginnings.
 #[test]
 fn what_may_follow() {
-    let kinds = ["10", "20", "30", "31", "40", "49", "50", "88", "89", "32", "  ", "3x"];
+    let kinds =
+        ["10", "20", "30", "31", "40", "41", "49", "50", "88", "89", "32", "42", "  ", "3x"];
     // (records up to here, what may come)
     let beginnings: Vec<(Vec<String>, &[&str])> = vec![
         (vec![], &["10"]),
@@ -272,8 +273,17 @@ fn what_may_follow() {
     for (service, code, next) in after31 {
         beginnings.push((begin(service, code), next));
     }
-    beginnings.push(([begin("04", "03"), vec![r40("03", 1)]].concat(), &["30", "88"]));
-    beginnings.push(([begin("04", "04"), vec![r40("04", 1)]].concat(), &["30", "88"]));
+    for code in ["03", "04"] {
+        let (second, message) = (r41(code, 1), r49_04(code, 1, 1, 1));
+        let behind = |more: &[&String]| {
+            let more = more.iter().map(|&line| line.clone()).collect();
+            [begin("04", code), vec![r40(code, 1)], more].concat()
+        };
+        beginnings.push((behind(&[]), &["41", "49", "30", "88"]));
+        beginnings.push((behind(&[&second]), &["49", "30", "88"]));
+        beginnings.push((behind(&[&message]), &["49", "30", "88"]));
+        beginnings.push((behind(&[&second, &message]), &["49", "30", "88"]));
+    }
     beginnings.push(([begin("01", "03"), vec![r49(1, 1, 1)]].concat(), &["49", "30", "88"]));
     beginnings.push(([begin("04", "16"), vec![r50("16", 1, 1)]].concat(), &["50", "30", "88"]));
     let ended = closed(&bytes(&begin("04", "02")));
@@ -302,10 +312,10 @@ fn what_may_follow() {
             continue;
         }
         let data = bytes(&beginning);
-        if at != 7 {
+        if !allowed.is_empty() {
             assert_eq!(check(&data), Err(refused(6, at, 0)));
         }
-        if at <= 6 && !beginning.iter().any(|line| &line[6..8] == "88") {
+        if !beginning.iter().any(|line| &line[6..8] == "88") {
             let wanted =
                 if allowed.contains(&"88") { refused(19, 0, 0) } else { refused(6, at, 0) };
             assert_eq!(close(&data, 0).0, Err(wanted));

@@ -6,7 +6,7 @@ use common::*;
 use reference::answer::{of_drafting, of_making};
 use reference::cases::{Operation, case};
 use reference::make::{BadLine, Drafting, Making, Values, make, make_draft};
-use reference::make::{make10, make20, make30, make31, make40, make49, make50};
+use reference::make::{make10, make20, make30, make31, make40, make41, make49, make50};
 use reference::random::Random;
 use reference::sample::{Plan, draft_and_file, sound_draft};
 use reference::{RECORD, Refused, till};
@@ -65,6 +65,11 @@ fn m31(head: (u64, u64), texts: [&str; 3]) -> Result<String, (u8, u8)> {
 fn m40(head: (u64, u64), texts: [&str; 4]) -> Result<String, (u8, u8)> {
     let [name, postal, filler, area] = texts.map(str::as_bytes);
     made(|out| make40(head.0, head.1, 1, name, postal, filler, area, out))
+}
+
+fn m41(head: (u64, u64), texts: [&str; 3]) -> Result<String, (u8, u8)> {
+    let [address1, address2, country] = texts.map(str::as_bytes);
+    made(|out| make41(head.0, head.1, 1, address1, address2, country, out))
 }
 
 fn m49(head: (u64, u64), line: u64, column: u64, text: &str) -> Result<String, (u8, u8)> {
@@ -126,7 +131,11 @@ fn each_record_type() {
     assert_eq!(m31((1, 2), ["MAKRELL", "", ""]), Ok(r31("01", "02", 1)));
     let r = m40((4, 4), ["KARI NORDMANN", "0150", "", "OSLO"]);
     assert_eq!(r, Ok(r40("04", 1)));
+    assert_eq!(m41((4, 3), ["POSTBOKS 7", "KAI 3", "SE"]), Ok(r41("03", 1)));
+    assert_eq!(m41((4, 4), ["POSTBOKS 7", "KAI 3", ""]), Ok(r41("04", 1)));
     assert_eq!(m49((1, 3), 21, 2, "TEKST"), Ok(r49(1, 21, 2)));
+    assert_eq!(m49((4, 3), 21, 2, "TEKST"), Ok(r49_04("03", 1, 21, 2)));
+    assert_eq!(m49((4, 4), 1, 1, "TEKST"), Ok(r49_04("04", 1, 1, 1)));
     assert_eq!(m50((4, 17), "1234567", 90), Ok(r50("17", 1, 90)));
 }
 
@@ -158,9 +167,19 @@ fn too_long_comes_first() {
     assert_eq!(m40((9, 9), ["\0", "01500", "x", "\0"]), Err((22, 7)));
     assert_eq!(m40((9, 9), ["\0", "x", "    ", "\0"]), Err((22, 8)));
     assert_eq!(m40((9, 9), ["\0", "x", "x", &blanks(26)]), Err((22, 9)));
-    assert_eq!(m49((9, 9), 1000, 10, &blanks(41)), Err((22, 7)));
-    assert_eq!(m49((9, 9), 999, 10, &blanks(41)), Err((22, 8)));
-    assert_eq!(m49((9, 9), 999, 9, &blanks(41)), Err((22, 9)));
+    assert_eq!(m41((9, 9), [&blanks(31), &blanks(31), &blanks(4)]), Err((22, 6)));
+    assert_eq!(m41((9, 9), ["\0", &blanks(31), &blanks(4)]), Err((22, 7)));
+    assert_eq!(m41((9, 9), ["\0", "\0", &blanks(4)]), Err((22, 8)));
+    // The layout of a 49 is its service's; what is no service has service 01's.
+    for service in [0, 1, 2, 3, 5, 9, 14, 40, 44, 99] {
+        assert_eq!(m49((service, 9), 1000, 10, &blanks(41)), Err((22, 7)));
+        assert_eq!(m49((service, 9), 999, 10, &blanks(41)), Err((22, 8)));
+        assert_eq!(m49((service, 9), 999, 9, &blanks(41)), Err((22, 9)));
+    }
+    assert_eq!(m49((4, 9), 1000, 10, &blanks(41)), Err((22, 6)));
+    assert_eq!(m49((4, 9), 999, 10, &blanks(41)), Err((22, 7)));
+    assert_eq!(m49((4, 9), 999, 9, &blanks(41)), Err((22, 8)));
+    assert_eq!(m49((104, 9), 1000, 10, &blanks(41)), Err((22, 2)));
     assert_eq!(m50((9, 9), &blanks(26), far), Err((22, 6)));
     assert_eq!(m50((9, 9), "x", MOST + 1), Err((22, 7)));
     assert_eq!(made(|out| make31(9, 9, 10_000_000, [b""; 3], out)), Err((22, 5)));
@@ -184,6 +203,7 @@ fn services_and_types() {
                 m30(head, 11_125, ACCOUNT, 1, kid),
                 m31(head, ["", "", ""]),
                 m40(head, ["K", "0150", "", "K"]),
+                m41(head, ["", "", ""]),
                 m49(head, 1, 1, ""),
             ];
             for found in found {
@@ -263,8 +283,19 @@ fn own_rules_of_31_to_50() {
             let found = made(|out| make31(4, 2, 0, texts, out)).map(drop);
             assert_eq!(found, if sound { Ok(()) } else { Err((8, 6 + at as u8)) });
         }
-        let found = made(|out| make49(4, 2, 0, 1, 1, text, out)).map(drop);
-        assert_eq!(found, if sound { Ok(()) } else { Err((8, 9)) });
+        for (head, field) in [((1, 2), 9), ((4, 2), 8)] {
+            let found = made(|out| make49(head.0, head.1, 0, 1, 1, text, out)).map(drop);
+            assert_eq!(found, if sound { Ok(()) } else { Err((8, field)) });
+        }
+        // A 41, whose country is blank in type 04.
+        for (head, at) in [((1, 2), 0), ((4, 3), 1), ((4, 66), 2), ((4, 4), 0), ((4, 4), 2)] {
+            let mut texts: [&[u8]; 3] = [b""; 3];
+            texts[at] = text;
+            let [one, two, country] = texts;
+            let found = made(|out| make41(head.0, head.1, 0, one, two, country, out)).map(drop);
+            let sound = if head == (4, 4) && at == 2 { byte == b' ' } else { sound };
+            assert_eq!(found, if sound { Ok(()) } else { Err((8, 6 + at as u8)) });
+        }
         let postal = byte.is_ascii_digit() || byte == b' ';
         let found = made(|out| make40(1, 3, 0, b"", text, b"", b"", out)).map(drop);
         assert_eq!(found, if postal { Ok(()) } else { Err((8, 7)) });
@@ -282,16 +313,31 @@ fn own_rules_of_31_to_50() {
     assert_eq!(address(["K", "0150", "", " "]), Err((8, 9)));
     assert_eq!(m40((4, 3), ["", "", "", ""]).map(drop), Ok(()));
     assert_eq!(m40((1, 2), ["", "1 2", " 3", ""]).unwrap()[45..52], *"1 2  3 ");
-    // Lines and columns.
-    for line in 0..1000 {
-        let expected = if (1..=21).contains(&line) { Ok(()) } else { Err((7, 7)) };
-        assert_eq!(m49((1, 3), line, 2, "").map(drop), expected);
-        assert_eq!(m49((1, 3), line, 0, "\0").map(drop), expected.and(Err((7, 8))));
+    // The texts of a 41 are put to the left.
+    let made = m41((4, 3), [" A", "B ", "S"]).unwrap();
+    assert_eq!(made[15..80], format!("{:<30}{:<30}S  00", " A", "B "));
+    assert_eq!(m41((4, 4), ["\0", "\0", "SE"]), Err((8, 6)));
+    assert_eq!(m41((4, 4), ["", "\0", "SE"]), Err((8, 7)));
+    assert_eq!(m41((4, 4), ["", "", "   "]).map(drop), Ok(()));
+    assert_eq!(m41((1, 4), ["", "", "SE"]), Err((7, 3)));
+    // Lines and columns, by the layout of the service.
+    for (head, field) in [((1, 3), 7), ((4, 3), 6), ((4, 66), 6)] {
+        for line in 0..1000 {
+            let expected = if (1..=21).contains(&line) { Ok(()) } else { Err((7, field)) };
+            assert_eq!(m49(head, line, 2, "").map(drop), expected);
+            assert_eq!(m49(head, line, 0, "\0").map(drop), expected.and(Err((7, field + 1))));
+        }
+        for column in 0..10 {
+            let expected = if (1..=2).contains(&column) { Ok(()) } else { Err((7, field + 1)) };
+            assert_eq!(m49(head, 1, column, "").map(drop), expected);
+        }
+        assert_eq!(m49(head, 21, 2, "\0").map(drop), Err((8, field + 2)));
     }
-    for column in 0..10 {
-        let expected = if (1..=2).contains(&column) { Ok(()) } else { Err((7, 8)) };
-        assert_eq!(m49((4, 66), 1, column, "").map(drop), expected);
-    }
+    assert_eq!(m49((4, 2), 7, 1, "A").unwrap()[15..], format!("0071{:<40}{}", "A", "0".repeat(21)));
+    assert_eq!(
+        m49((1, 2), 7, 1, "A").unwrap()[15..],
+        format!("30071{:<40}{}", "A", "0".repeat(20))
+    );
     // KIDs in a 50: of service 01 at the right alone.
     let (right, left) = (format!("{:>25}", "12"), format!("{:<25}", "12"));
     for service in [1, 4] {
@@ -308,7 +354,7 @@ fn own_rules_of_31_to_50() {
 /// Values by chance: what is made reads back, and is in a file what it was alone.
 #[test]
 fn made_records_read_back() {
-    let makings = &Operation::ALL[4..11];
+    let makings = &Operation::ALL[4..12];
     let (mut sound, mut numbers) = (0, [0u32; 23]);
     for index in 0..100_000 {
         let case = case(3, index, makings);
@@ -360,8 +406,14 @@ fn by_hand(values: Values) -> Option<Vec<u8>> {
             let texts = [left(name, 30), left(postal, 4), left(filler, 3), left(area, 25)];
             fits.then(|| [head(service, code, 40, number), texts.concat()].concat())?
         }
+        Values::Address2 { service, code, number, address1, address2, country } => {
+            let fits = fits(address1, 30) && fits(address2, 30) && fits(country, 3);
+            let texts = [left(address1, 30), left(address2, 30), left(country, 3)];
+            fits.then(|| [head(service, code, 41, number), texts.concat()].concat())?
+        }
         Values::Message { service, code, number, line, column, text } => {
-            let place = format!("3{line:03}{column}").into_bytes();
+            let notification = if service == 4 { "" } else { "3" };
+            let place = format!("{notification}{line:03}{column}").into_bytes();
             let head = head(service, code, 49, number);
             fits(text, 40).then(|| [head, place, left(text, 40)].concat())?
         }
@@ -377,6 +429,8 @@ fn by_hand(values: Values) -> Option<Vec<u8>> {
         Values::Amount1 { .. } => 74,
         Values::Amount2 { .. } => 75,
         Values::Address { .. } => 77,
+        Values::Address2 { .. } => 78,
+        Values::Message { service: 4, .. } => 59,
         Values::Message { .. } => 60,
         _ => 57,
     };
@@ -391,8 +445,8 @@ fn by_hand(values: Values) -> Option<Vec<u8>> {
 /// the same number and field, or goes on.
 #[test]
 fn judged_as_in_a_draft() {
-    let makings = &Operation::ALL[6..11];
-    let mut compared = [0u32; 5];
+    let makings = &Operation::ALL[6..12];
+    let mut compared = [0u32; 7];
     for index in 0..60_000 {
         let mut case = case(4, index, makings);
         // Number 1 agrees; 0 and what does not agree are closing's.
@@ -421,6 +475,8 @@ fn judged_as_in_a_draft() {
             Values::Address { service: 4, code: 3 | 4, .. } => 2,
             Values::Message { service: 1, code: 3, .. } => 3,
             Values::SubSpec { service: 4, .. } => 4,
+            Values::Address2 { service: 4, code: 3 | 4, .. } => 5,
+            Values::Message { service: 4, code: 3 | 4, .. } => 6,
             _ => continue,
         };
         let code = if which == 4 { "16" } else { &code };
@@ -430,6 +486,9 @@ fn judged_as_in_a_draft() {
         }
         if which > 1 {
             before.push(r31(&service, code, 1));
+        }
+        if which > 4 {
+            before.push(r40(code, 1));
         }
         let draft = [bytes(&before), record].concat();
         let at = before.len() as u32 + 1;
@@ -462,6 +521,7 @@ fn sound_drafts_are_made_of_their_values() {
             transactions: 1 + random.below(6) as u32,
             records: None,
             extras: 50,
+            notices: 50,
             extremes: true,
         };
         let mut draft = sound_draft(plan);
@@ -536,13 +596,17 @@ fn record_types_of_lines() {
 
 #[test]
 fn too_few_and_too_many_values() {
-    let fields: [(&str, &[u8]); 7] = [
+    let fields: [(&str, &[u8]); 11] = [
         ("10;1;1", &[5, 6]),
         ("20;4;1;1;12345678903", &[2, 5, 6, 7]),
         ("30;4;2;1;011125;12345678903;1;", &[2, 3, 5, 6, 7, 8, 9]),
         ("31;4;2;1;A;B;C", &[2, 3, 5, 6, 7, 8]),
         ("40;4;3;1;A;0150;;C", &[2, 3, 5, 6, 7, 8, 9]),
+        ("41;4;3;1;A;B;SE", &[2, 3, 5, 6, 7, 8]),
         ("49;1;3;1;1;1;A", &[2, 3, 5, 7, 8, 9]),
+        ("49;4;3;1;1;1;A", &[2, 3, 5, 6, 7, 8]),
+        ("49;004;3;1;1;1;A", &[2, 3, 5, 6, 7, 8]),
+        ("49;01;3;1;1;1;A", &[2, 3, 5, 7, 8, 9]),
         ("50;4;16;1;1;1", &[2, 3, 5, 6, 7]),
     ];
     for (line, fields) in fields {
@@ -551,8 +615,9 @@ fn too_few_and_too_many_values() {
         for (present, &field) in (1..).zip(fields) {
             // Too few go before anything that is wrong with those that are there.
             assert_eq!(lines(values[..present].join(";")), Err((8, 1, field)), "{line}");
-            let wrong = vec!["x"; present - 1];
-            let few = [&values[..1], &wrong].concat().join(";");
+            // The service stays, since a 49 has its layout by it.
+            let wrong = vec!["x"; present.saturating_sub(2)];
+            let few = [&values[..present.min(2)], &wrong].concat().join(";");
             assert_eq!(lines(few), Err((8, 1, field)), "{line}");
         }
         assert_eq!(lines(line), Ok(1));
@@ -583,6 +648,13 @@ fn numbers_of_lines() {
     // 2 to the power of 64, and 7: a number that had wrapped would be 7.
     assert_eq!(lines("10;18446744073709551623;1"), Err((22, 1, 5)));
     assert_eq!(lines("49;1;3;1;1;x;A"), Err((8, 1, 8)));
+    assert_eq!(lines("49;4;3;1;1;x;A"), Err((8, 1, 7)));
+    assert_eq!(lines("49;4;3;1;x;x;A"), Err((8, 1, 6)));
+    assert_eq!(lines("49;x;3;1;x;x;A"), Err((8, 1, 2)));
+    // What is no service has service 01's layout, also where it is no number.
+    assert_eq!(lines("49;x;3;1"), Err((8, 1, 7)));
+    assert_eq!(lines("49;9;3;1;1;1"), Err((8, 1, 9)));
+    assert_eq!(lines("49;18446744073709551620;3;1;1;1"), Err((8, 1, 9)));
     assert_eq!(lines("50;4;16;1;x;"), Err((8, 1, 7)));
 }
 

@@ -33,7 +33,7 @@ use Rattle.rules.specs.Order.{mayFollow, mayEnd}
 use Rattle.rules.specs.Run.{chunks, recordsOf, recordAt, badLength}
 use Rattle.rules.specs.declared.Assignment.{Assignment}
 use Rattle.rules.specs.declared.Kind.{Kind}
-use Rattle.rules.specs.declared.Kind.the-variants.{R10, R20, R30, R31, R40, R49, R50, R88, R89, Other}
+use Rattle.rules.specs.declared.Kind.the-variants.{R10, R20, R30, R31, R40, R41, R49, R50, R88, R89, Other}
 use Rattle.rules.specs.declared.Mode.the-variants.{Draft}
 use Rattle.rules.specs.declared.State.{State}
 use Rattle.rules.proofs.Codes.{twenty}
@@ -93,6 +93,7 @@ kind-again R20 = refl
 kind-again R30 = refl
 kind-again R31 = refl
 kind-again R40 = refl
+kind-again R41 = refl
 kind-again R49 = refl
 kind-again R50 = refl
 kind-again R88 = refl

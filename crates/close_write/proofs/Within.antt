@@ -20,7 +20,7 @@ use Rattle.rules.specs.Growth.{gainFor, turnFor}
 use Rattle.rules.specs.Order.{mayFollow}
 use Rattle.rules.specs.declared.Assignment.{Assignment}
 use Rattle.rules.specs.declared.Kind.{Kind}
-use Rattle.rules.specs.declared.Kind.the-variants.{R10, R20, R30, R31, R40, R49, R50, R88, R89, Other}
+use Rattle.rules.specs.declared.Kind.the-variants.{R10, R20, R30, R31, R40, R41, R49, R50, R88, R89, Other}
 use Rattle.rules.specs.declared.Mode.the-variants.{Draft}
 use Rattle.run_loop.proofs.Keys.{twenty-code}
 use Rattle.close_write.specs.Block.{brought}
@@ -32,6 +32,7 @@ under R20 = true
 under R30 = true
 under R31 = true
 under R40 = true
+under R41 = true
 under R49 = true
 under R50 = true
 under R88 = false
@@ -45,6 +46,7 @@ within R20 = false
 within R30 = true
 within R31 = true
 within R40 = true
+within R41 = true
 within R49 = true
 within R50 = true
 within R88 = false
@@ -57,6 +59,7 @@ isTwenty R20 = true
 isTwenty R30 = false
 isTwenty R31 = false
 isTwenty R40 = false
+isTwenty R41 = false
 isTwenty R49 = false
 isTwenty R50 = false
 isTwenty R88 = false
@@ -87,6 +90,7 @@ not-twenty R20 n = absurd (n refl)
 not-twenty R30 n = refl
 not-twenty R31 n = refl
 not-twenty R40 n = refl
+not-twenty R41 n = refl
 not-twenty R49 n = refl
 not-twenty R50 n = refl
 not-twenty R88 n = refl
@@ -117,6 +121,7 @@ grows-by R20 r a w e = absurd (false≢true w)
 grows-by R30 r a w e = record { totals = rw e; service = refl; under = refl; file = rw e }
 grows-by R31 r a w e = record { totals = rw e; service = refl; under = refl; file = rw e }
 grows-by R40 r a w e = record { totals = rw e; service = refl; under = refl; file = rw e }
+grows-by R41 r a w e = record { totals = rw e; service = refl; under = refl; file = rw e }
 grows-by R49 r a w e = record { totals = rw e; service = refl; under = refl; file = rw e }
 grows-by R50 r a w e = record { totals = rw e; service = refl; under = refl; file = rw e }
 grows-by R88 r a w e = absurd (false≢true w)

@@ -22,7 +22,7 @@ use Rattle.rules.specs.Layouts.{rows, tableFor, record20}
 use Rattle.rules.specs.Growth.{gainFor, gain, turnFor, turn, keysFor, keys, after}
 use Rattle.rules.specs.declared.Assignment.{Assignment}
 use Rattle.rules.specs.declared.Kind.{Kind}
-use Rattle.rules.specs.declared.Kind.the-variants.{R10, R20, R30, R31, R40, R49, R50, R88, R89, Other}
+use Rattle.rules.specs.declared.Kind.the-variants.{R10, R20, R30, R31, R40, R41, R49, R50, R88, R89, Other}
 use Rattle.rules.specs.declared.Mode.the-variants.{File, Draft}
 use Rattle.rules.specs.declared.State.{State}
 use Rattle.operations.specs.Closing.{opens, behind88, endsBefore, withEnds}
@@ -48,6 +48,7 @@ below-on R20 r a f h = omega arith
 below-on R30 r a f h = omega arith
 below-on R31 r a f h = omega arith
 below-on R40 r a f h = omega arith
+below-on R41 r a f h = omega arith
 below-on R49 r a f h = omega arith
 below-on R50 r a f h = omega arith
 below-on R88 r a f h = omega arith

@@ -19,7 +19,7 @@ use Rattle.rules.proofs.Codes.{twenty, no-key}
 use Rattle.rules.specs.Growth.{gainFor, gain, turnFor, turn, keysFor, keys, after}
 use Rattle.rules.specs.declared.Assignment.{Assignment}
 use Rattle.rules.specs.declared.Kind.{Kind}
-use Rattle.rules.specs.declared.Kind.the-variants.{R10, R20, R30, R31, R40, R49, R50, R88, R89, Other}
+use Rattle.rules.specs.declared.Kind.the-variants.{R10, R20, R30, R31, R40, R41, R49, R50, R88, R89, Other}
 use Rattle.rules.specs.declared.State.{State}
 use Rattle.operations.specs.Closing.{opens, openings, behind88, endsBefore, withEnds}
 use Rattle.laws.specs.Meets.{gains}
@@ -95,6 +95,7 @@ gains-records (r ∷ rs) = go (kindOf r) (gains-records rs)
     go R30 h = omega arith
     go R31 h = omega arith
     go R40 h = omega arith
+    go R41 h = omega arith
     go R49 h = omega arith
     go R50 h = omega arith
     go R88 h = omega arith

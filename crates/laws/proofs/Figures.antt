@@ -36,7 +36,7 @@ plainGain n r = if eqb n 30 then oneTransaction (amountIn r) (dateIn r) else (if
 gain-is : (n : ℕ) (r : List ℕ) → gainFor (kindFor n) r ≡ plainGain n r
 unfolding kindFor
 gain-is n r =
-    at-codes P n refl refl refl refl refl refl refl refl refl λ a b c d e f g h i. simp (a, b, c, d, e, f, g, h, i)
+    at-codes P n refl refl refl refl refl refl refl refl refl refl λ a b c d e f g h i j. simp (a, b, c, d, e, f, g, h, i, j)
   where
     P : ℕ → Type 0
     P n = gainFor (kindFor n) r ≡ plainGain n r

@@ -24,7 +24,7 @@ use Rattle.rules.specs.Order.{behind, mayFollow, isEnd}
 use Rattle.rules.specs.Growth.{gainFor, turnFor}
 use Rattle.rules.specs.declared.Assignment.{Assignment}
 use Rattle.rules.specs.declared.Kind.{Kind}
-use Rattle.rules.specs.declared.Kind.the-variants.{R10, R20, R30, R31, R40, R49, R50, R88, R89, Other}
+use Rattle.rules.specs.declared.Kind.the-variants.{R10, R20, R30, R31, R40, R41, R49, R50, R88, R89, Other}
 use Rattle.rules.specs.declared.Mode.{Mode}
 use Rattle.rules.specs.declared.Mode.the-variants.{File, Draft}
 use Rattle.laws.specs.Stripped.{anEnd}
@@ -56,6 +56,7 @@ other-type m R30 s t p q r = refl
 other-type m R31 Autogiro t p q r = rw r
 other-type m R31 Remittance t p q r = rw (p, q, r)
 other-type m R40 s t p q r = refl
+other-type m R41 s t p q r = refl
 other-type m R49 s t p q r = refl
 other-type m R50 s t p q r = refl
 other-type m R88 s t p q r = refl
@@ -157,6 +158,7 @@ moved R20 r a n o h = lt-ltb 0 (n + 1) (omega arith)
 moved R30 r a n o h = rw add-zero h
 moved R31 r a n o h = rw add-zero h
 moved R40 r a n o h = rw add-zero h
+moved R41 r a n o h = rw add-zero h
 moved R49 r a n o h = rw add-zero h
 moved R50 r a n o h = rw add-zero h
 moved R88 r a n o h = h

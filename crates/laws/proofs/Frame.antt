@@ -3,9 +3,10 @@
 use Prim.Native.Nat.{ℕ, _+_, _≤_}
 use mathlib.Core.Path.{_≡_, refl, sym, ap, subst, _∙_}
 use mathlib.Core.List.{List, [], _∷_, _++_, append-nil}
-use mathlib.Core.Bool.{true, not}
+use mathlib.Core.Bool.{Bool, true, false, not}
 use native.Mathlib.Omega.{arith}
 use borrow.Author.Tests.{leb-true, le-leb, ltb-true, lt-ltb, not-true}
+use lib.Dec.{eqb}
 use Rattle.dates.specs.declared.Window.{Window}
 use Rattle.figures.specs.Figures.{within, limitWide}
 use Rattle.figures.specs.Totals.{_⊕_}
@@ -13,13 +14,14 @@ use Rattle.figures.specs.declared.amounts.Amount.{Amount}
 use Rattle.figures.specs.declared.totals.Totals.{Totals}
 use Rattle.limits.specs.Limits.{mostAssignments}
 use Rattle.layout.specs.Rows.{Row, at, must, file, holds, member, AllHold}
-use Rattle.rules.specs.Codes.{kindOf, keyIn}
+use Rattle.rules.specs.Codes.{kindOf, keyIn, serviceCode}
+use Rattle.rules.specs.Fields.{messageOf}
 use Rattle.rules.specs.Payments.{amountIn}
-use Rattle.rules.specs.Layouts.{tableFor, rows}
+use Rattle.rules.specs.Layouts.{notification49, message49, tableFor, rows, notificationBy}
 use Rattle.rules.specs.Growth.{gainFor, gain, turn, keysFor, keys, allKeys}
 use Rattle.rules.specs.declared.Assignment.{Assignment}
 use Rattle.rules.specs.declared.Kind.{Kind}
-use Rattle.rules.specs.declared.Kind.the-variants.{R10, R20, R30, R31, R40, R49, R50, R88, R89, Other}
+use Rattle.rules.specs.declared.Kind.the-variants.{R10, R20, R30, R31, R40, R41, R49, R50, R88, R89, Other}
 use Rattle.rules.specs.declared.Mode.{Mode}
 use Rattle.laws.specs.Meets.{gains, Meets}
 use Rattle.laws.specs.Fits.{Fresh, Fits, NoEnd}
@@ -48,6 +50,15 @@ took-it : (sum more : Amount) → within sum more limitWide ≡ true → sum .0 
 unfolding within
 took-it sum more h = leb-true (sum .0 + more .0) (limitWide .0) h
 
+-- a notification code asks nothing of the file
+noted : (f : Totals) (ks : List ℕ) (s : ℕ) (ws : List Row) → Asked f ks ws → Asked f ks (notification49 s ++ ws)
+unfolding notification49
+noted f ks s ws h = go (eqb s 4)
+  where
+    go : (b : Bool) → Asked f ks (notificationBy b ++ ws)
+    go true = h
+    go false = h
+
 -- what fits meets what its first record asks
 pub asked : (k : Kind) (w : Window) (a : Assignment) (r : List ℕ) (f : Totals) (ks : List ℕ) (g : Totals) (l : List ℕ) → (k ≡ R89 → ⊥)
     → Fits f ks (gainFor k r ⊕ g) (keysFor k r ++ l) → Asked f ks (tableFor k w a r)
@@ -57,7 +68,8 @@ asked R20 w a r f ks g l e fit = (lt-ltb (f .assignments .0) mostAssignments (om
 asked R30 w a r f ks g l e fit = (takes-it (f .sum) (amountIn r) (omega (arith, fit .sums)), tt)
 asked R31 w a r f ks g l e fit = tt
 asked R40 w a r f ks g l e fit = tt
-asked R49 w a r f ks g l e fit = tt
+asked R41 w a r f ks g l e fit = tt
+asked R49 w a r f ks g l e fit = noted f ks (serviceCode r) (message49 (messageOf (serviceCode r)) (a .places) r) tt
 asked R50 w a r f ks g l e fit = tt
 asked R88 w a r f ks g l e fit = tt
 asked R89 w a r f ks g l e fit = absurd (e refl)
@@ -71,6 +83,7 @@ fresh-on R20 r ks l h = h .1
 fresh-on R30 r ks l h = rw append-nil h
 fresh-on R31 r ks l h = rw append-nil h
 fresh-on R40 r ks l h = rw append-nil h
+fresh-on R41 r ks l h = rw append-nil h
 fresh-on R49 r ks l h = rw append-nil h
 fresh-on R50 r ks l h = rw append-nil h
 fresh-on R88 r ks l h = rw append-nil h
@@ -122,6 +135,7 @@ given R30 w a r f ks h =
     }
 given R31 w a r f ks h = free f R31 r ks refl refl refl
 given R40 w a r f ks h = free f R40 r ks refl refl refl
+given R41 w a r f ks h = free f R41 r ks refl refl refl
 given R49 w a r f ks h = free f R49 r ks refl refl refl
 given R50 w a r f ks h = free f R50 r ks refl refl refl
 given R88 w a r f ks h = free f R88 r ks refl refl refl

@@ -27,3 +27,4 @@ pub mod OneAnswer
 pub mod Making
 pub mod Slices
 pub mod Tells
+pub mod Messages

@@ -3,7 +3,7 @@
 use Prim.Native.Nat.{ℕ, _+_, _≤_, _<_, _^_}
 use mathlib.Core.Path.{_≡_, refl, sym, ap, ap₂, subst, _∙_}
 use mathlib.Core.Logic.{_↔_}
-use mathlib.Core.List.{List, [], _∷_, _++_}
+use mathlib.Core.List.{List, [], _∷_, _++_, append-assoc}
 use mathlib.Core.Bool.{Bool, true, false}
 use native.Mathlib.Omega.{arith}
 use borrow.Author.Tests.{leb-true, leb-false, ltb-true, le-leb, lt-leb}
@@ -28,21 +28,24 @@ use Rattle.layout.specs.declared.Finding.the-variants.{Sound, Fault}
 use Rattle.layout.proofs.Laws.{next, stop, sound-of-all, all-of-sound, fault-not-sound}
 use Rattle.rules.specs.Alone.{listedFor, ownRows, ownTable}
 use Rattle.rules.specs.Codes.{kindFor, kindOf, numberOfKind, serviceCode}
-use Rattle.rules.specs.Layouts.{rows, tableFor}
+use Rattle.rules.specs.Fields.{numberIn, bytesIn, messageOf, messageBy}
+use Rattle.rules.specs.Layouts.{repeats, notification49, message49, fields49, tableFor, rows}
+use Rattle.rules.specs.Growth.{nothingYet}
 use Rattle.rules.specs.Refusals.{refusal}
 use Rattle.rules.specs.declared.Assignment.{Assignment}
 use Rattle.rules.specs.declared.Kind.{Kind}
-use Rattle.rules.specs.declared.Kind.the-variants.{R10, R20, R30, R31, R40, R49, R50, R88, R89, Other}
+use Rattle.rules.specs.declared.Kind.the-variants.{R10, R20, R30, R31, R40, R41, R49, R50, R88, R89, Other}
 use Rattle.rules.specs.declared.Mode.{Mode}
 use Rattle.rules.specs.declared.Refusal.{Refusal}
 use Rattle.operations.specs.Closing.{bytesOf}
-use Rattle.operations.specs.Making.{Put, recordFrom, tooLong, notMade, onSound, judged, makeOf, lentRecord, madeBytes, made10, made20, made30, made31, made40, made49, made50}
+use Rattle.operations.specs.Making.{Put, recordFrom, tooLong, notMade, onSound, judged, makeOf, lentRecord, madeBytes, head, number, notification, message, codeBy}
 use Rattle.operations.specs.declared.Making.{Making}
 use Rattle.operations.specs.declared.Making.the-variants.{Made, NotMade}
-use Rattle.laws.specs.Makable.{AllFit, LongValue, OwnHold, OwnFault, Makes, MakeRefusing, too-long, own-rule, no-room, Values, of10, of20, of30, of31, of40, of49, of50, HeadRead, ReadsBack}
+use Rattle.laws.specs.Makable.{AllFit, LongValue, OwnHold, OwnFault, Makes, MakeRefusing, too-long, own-rule, no-room, Values, of10, of20, of30, of31, of40, of41, of49, of50, HeadRead, ReadsBack}
 use Rattle.laws.specs.Saved.{Saved}
 use Rattle.laws.proofs.Bytes.{cuts, widths, cut-again, laid-length, total}
 use Rattle.laws.proofs.EndRecords.{cutsFrom, from-place, code-reads}
+use Rattle.laws.proofs.Sound.{hold-behind}
 use Rattle.laws.proofs.First.{fault-inj, sound-not-fault, broken, broken-so}
 
 -- ---- 22
@@ -175,6 +178,44 @@ number-read w n {s} e h = number-is s n (ap numberOf e ∙ digit-field w .reads-
 code-read : (n : ℕ) {s : List ℕ} → s ≡ written 2 n → ltb n (10 ^ 2) ≡ true → codeOf s ≡ n
 code-read n {s} e h = code-reads n s e (ltb-true n 100 h)
 
+-- its length, its type and its line feed
+record Shaped (kind : Kind) (r : List ℕ) : Type 0 where
+  sized : length r ≡ recordBytes
+  typed : kindOf r ≡ kind
+  fed : part 81 81 r ≡ 10 ∷ []
+
+-- a 49 by its service: b says that it is 04, which has no notification code
+abbrev widths49 : Bool → List ℕ
+widths49 b = 2 ∷ 2 ∷ 2 ∷ 2 ∷ 7 ∷ (if b then (3 ∷ 1 ∷ 40 ∷ 21 ∷ 1 ∷ []) else (1 ∷ 3 ∷ 1 ∷ 40 ∷ 20 ∷ 1 ∷ []))
+
+module _ (service type n line column : ℕ) (words : List ℕ) where
+  abbrev puts49 : Bool → List Put
+  puts49 b = head R49 service type ++ (number 5 7 n ∷ []) ++ codeBy b ++ message (messageBy b) line column words
+
+  fit49 : (b : Bool) → AllFit (puts49 b) → widths (laidOut (puts49 b)) ≡ widths49 b
+  unfolding AllFit widths laidOut
+  fit49 true h = simp (written-length, left-length 40 words (leb-true (length words) 40 (h .1 .1 .1 .1 .1 .1 .1 .0)))
+  fit49 false h = simp (written-length, left-length 40 words (leb-true (length words) 40 (h .1 .1 .1 .1 .1 .1 .1 .1 .0)))
+
+  cut49 : (b : Bool) → AllFit (puts49 b) → cutsFrom 0 (widths49 b) (recordFrom (puts49 b)) ≡ laidOut (puts49 b)
+  cut49 b h = in-places (widths49 b) (puts49 b) (fit49 b h)
+
+  read49 : (b : Bool) → AllFit (puts49 b)
+      → let r = recordFrom (puts49 b) in
+      HeadRead service type n r × (numberIn (messageBy b .line) r ≡ line) × (numberIn (messageBy b .column) r ≡ column) × (bytesIn (messageBy b .text) r ≡ toLeft 40 words)
+  unfolding AllFit cutsFrom laidOut
+  read49 true h =
+      let p = cut49 true h in
+      ((code-read service (nth 1 p) (h .1 .0), code-read type (nth 2 p) (h .1 .1 .0), number-read 7 n (nth 4 p) (h .1 .1 .1 .1 .0)), number-read 3 line (nth 5 p) (h .1 .1 .1 .1 .1 .0), number-read 1 column (nth 6 p) (h .1 .1 .1 .1 .1 .1 .0), nth 7 p)
+  read49 false h =
+      let p = cut49 false h in
+      ((code-read service (nth 1 p) (h .1 .0), code-read type (nth 2 p) (h .1 .1 .0), number-read 7 n (nth 4 p) (h .1 .1 .1 .1 .0)), number-read 3 line (nth 6 p) (h .1 .1 .1 .1 .1 .1 .0), number-read 1 column (nth 7 p) (h .1 .1 .1 .1 .1 .1 .1 .0), nth 8 p)
+
+  shaped49 : (b : Bool) → AllFit (puts49 b) → Shaped R49 (recordFrom (puts49 b))
+  unfolding cutsFrom laidOut total kindFor
+  shaped49 true h = let p = cut49 true h in record { sized = long-as _ _ (fit49 true h); typed = ap kindFor (code-read 49 (nth 3 p) refl); fed = nth 9 p }
+  shaped49 false h = let p = cut49 false h in record { sized = long-as _ _ (fit49 false h); typed = ap kindFor (code-read 49 (nth 3 p) refl); fed = nth 10 p }
+
 -- how wide the fields of each record are, the line feed's among them
 abbrev widthsOf : (kind : Kind) (ps : List Put) → Values kind ps → List ℕ
 widthsOf _ _ (of10 sender n) = 2 ∷ 2 ∷ 2 ∷ 2 ∷ 8 ∷ 7 ∷ 8 ∷ 49 ∷ 1 ∷ []
@@ -182,17 +223,19 @@ widthsOf _ _ (of20 service agreement assignment account) = 2 ∷ 2 ∷ 2 ∷ 2 �
 widthsOf _ _ (of30 service type n date party amount kid) = 2 ∷ 2 ∷ 2 ∷ 2 ∷ 7 ∷ 6 ∷ 11 ∷ 17 ∷ 25 ∷ 6 ∷ 1 ∷ []
 widthsOf _ _ (of31 service type n text6 text7 text8) = 2 ∷ 2 ∷ 2 ∷ 2 ∷ 7 ∷ 10 ∷ 25 ∷ 25 ∷ 5 ∷ 1 ∷ []
 widthsOf _ _ (of40 service type n name postal filler area) = 2 ∷ 2 ∷ 2 ∷ 2 ∷ 7 ∷ 30 ∷ 4 ∷ 3 ∷ 25 ∷ 3 ∷ 1 ∷ []
-widthsOf _ _ (of49 service type n line column words) = 2 ∷ 2 ∷ 2 ∷ 2 ∷ 7 ∷ 1 ∷ 3 ∷ 1 ∷ 40 ∷ 20 ∷ 1 ∷ []
+widthsOf _ _ (of41 service type n address1 address2 country) = 2 ∷ 2 ∷ 2 ∷ 2 ∷ 7 ∷ 30 ∷ 30 ∷ 3 ∷ 2 ∷ 1 ∷ []
+widthsOf _ _ (of49 service type n line column words) = widths49 (eqb service 4)
 widthsOf _ _ (of50 service type n kid amount) = 2 ∷ 2 ∷ 2 ∷ 2 ∷ 7 ∷ 25 ∷ 17 ∷ 23 ∷ 1 ∷ []
 
 fit-widths : (kind : Kind) (ps : List Put) (v : Values kind ps) → AllFit ps → widths (laidOut ps) ≡ widthsOf kind ps v
-unfolding AllFit widths laidOut
+unfolding AllFit widths laidOut notification messageOf
 fit-widths _ _ (of10 sender n) h = simp written-length
 fit-widths _ _ (of20 service agreement assignment account) h = simp written-length
 fit-widths _ _ (of30 service type n date party amount kid) h = simp (written-length, right-length 11 party (leb-true (length party) 11 (h .1 .1 .1 .1 .1 .1 .0)), right-length 25 kid (leb-true (length kid) 25 (h .1 .1 .1 .1 .1 .1 .1 .1 .0)))
 fit-widths _ _ (of31 service type n text6 text7 text8) h = simp (written-length, left-length 10 text6 (leb-true (length text6) 10 (h .1 .1 .1 .1 .1 .0)), left-length 25 text7 (leb-true (length text7) 25 (h .1 .1 .1 .1 .1 .1 .0)), left-length 25 text8 (leb-true (length text8) 25 (h .1 .1 .1 .1 .1 .1 .1 .0)))
 fit-widths _ _ (of40 service type n name postal filler area) h = simp (written-length, left-length 30 name (leb-true (length name) 30 (h .1 .1 .1 .1 .1 .0)), left-length 4 postal (leb-true (length postal) 4 (h .1 .1 .1 .1 .1 .1 .0)), left-length 3 filler (leb-true (length filler) 3 (h .1 .1 .1 .1 .1 .1 .1 .0)), left-length 25 area (leb-true (length area) 25 (h .1 .1 .1 .1 .1 .1 .1 .1 .0)))
-fit-widths _ _ (of49 service type n line column words) h = simp (written-length, left-length 40 words (leb-true (length words) 40 (h .1 .1 .1 .1 .1 .1 .1 .1 .0)))
+fit-widths _ _ (of41 service type n address1 address2 country) h = simp (written-length, left-length 30 address1 (leb-true (length address1) 30 (h .1 .1 .1 .1 .1 .0)), left-length 30 address2 (leb-true (length address2) 30 (h .1 .1 .1 .1 .1 .1 .0)), left-length 3 country (leb-true (length country) 3 (h .1 .1 .1 .1 .1 .1 .1 .0)))
+fit-widths _ _ (of49 service type n line column words) h = fit49 service type n line column words (eqb service 4) h
 fit-widths _ _ (of50 service type n kid amount) h = simp (written-length, right-length 25 kid (leb-true (length kid) 25 (h .1 .1 .1 .1 .1 .0)))
 
 -- every value in its place
@@ -201,29 +244,25 @@ module _ (kind : Kind) (ps : List Put) (v : Values kind ps) (h : AllFit ps) wher
   places = in-places (widthsOf kind ps v) ps (fit-widths kind ps v h)
 
 reads-back : (kind : Kind) (ps : List Put) (v : Values kind ps) → AllFit ps → ReadsBack kind ps v (recordFrom ps)
-unfolding AllFit ReadsBack cutsFrom laidOut
+unfolding AllFit ReadsBack cutsFrom laidOut notification messageOf
 reads-back _ _ (of10 sender n) h = let p = places _ _ (of10 sender n) h in (number-read 8 sender (nth 4 p) (h .1 .1 .1 .1 .0), number-read 7 n (nth 5 p) (h .1 .1 .1 .1 .1 .0))
 reads-back _ _ (of20 service agreement assignment account) h = let p = places _ _ (of20 service agreement assignment account) h in (code-read service (nth 1 p) (h .1 .0), number-read 9 agreement (nth 4 p) (h .1 .1 .1 .1 .0), number-read 7 assignment (nth 5 p) (h .1 .1 .1 .1 .1 .0), number-read 11 account (nth 6 p) (h .1 .1 .1 .1 .1 .1 .0))
 reads-back _ _ (of30 service type n date party amount kid) h = let p = places _ _ (of30 service type n date party amount kid) h in ((code-read service (nth 1 p) (h .1 .0), code-read type (nth 2 p) (h .1 .1 .0), number-read 7 n (nth 4 p) (h .1 .1 .1 .1 .0)), number-read 6 date (nth 5 p) (h .1 .1 .1 .1 .1 .0), nth 6 p, number-read 17 amount (nth 7 p) (h .1 .1 .1 .1 .1 .1 .1 .0), nth 8 p)
 reads-back _ _ (of31 service type n text6 text7 text8) h = let p = places _ _ (of31 service type n text6 text7 text8) h in ((code-read service (nth 1 p) (h .1 .0), code-read type (nth 2 p) (h .1 .1 .0), number-read 7 n (nth 4 p) (h .1 .1 .1 .1 .0)), nth 5 p, nth 6 p, nth 7 p)
 reads-back _ _ (of40 service type n name postal filler area) h = let p = places _ _ (of40 service type n name postal filler area) h in ((code-read service (nth 1 p) (h .1 .0), code-read type (nth 2 p) (h .1 .1 .0), number-read 7 n (nth 4 p) (h .1 .1 .1 .1 .0)), nth 5 p, nth 6 p, nth 7 p, nth 8 p)
-reads-back _ _ (of49 service type n line column words) h = let p = places _ _ (of49 service type n line column words) h in ((code-read service (nth 1 p) (h .1 .0), code-read type (nth 2 p) (h .1 .1 .0), number-read 7 n (nth 4 p) (h .1 .1 .1 .1 .0)), number-read 3 line (nth 6 p) (h .1 .1 .1 .1 .1 .1 .0), number-read 1 column (nth 7 p) (h .1 .1 .1 .1 .1 .1 .1 .0), nth 8 p)
+reads-back _ _ (of41 service type n address1 address2 country) h = let p = places _ _ (of41 service type n address1 address2 country) h in ((code-read service (nth 1 p) (h .1 .0), code-read type (nth 2 p) (h .1 .1 .0), number-read 7 n (nth 4 p) (h .1 .1 .1 .1 .0)), nth 5 p, nth 6 p, nth 7 p)
+reads-back _ _ (of49 service type n line column words) h = read49 service type n line column words (eqb service 4) h
 reads-back _ _ (of50 service type n kid amount) h = let p = places _ _ (of50 service type n kid amount) h in ((code-read service (nth 1 p) (h .1 .0), code-read type (nth 2 p) (h .1 .1 .0), number-read 7 n (nth 4 p) (h .1 .1 .1 .1 .0)), nth 5 p, number-read 17 amount (nth 6 p) (h .1 .1 .1 .1 .1 .1 .0))
 
--- its length, its type and its line feed
-record Shaped (kind : Kind) (r : List ℕ) : Type 0 where
-  sized : length r ≡ recordBytes
-  typed : kindOf r ≡ kind
-  fed : part 81 81 r ≡ 10 ∷ []
-
 shaped : (kind : Kind) (ps : List Put) (v : Values kind ps) → AllFit ps → Shaped kind (recordFrom ps)
-unfolding cutsFrom laidOut total kindFor
+unfolding cutsFrom laidOut total kindFor notification messageOf
 shaped _ _ (of10 sender n) h = let p = places _ _ (of10 sender n) h in record { sized = long-as _ _ (fit-widths _ _ (of10 sender n) h); typed = ap kindFor (code-read 10 (nth 3 p) refl); fed = nth 8 p }
 shaped _ _ (of20 service agreement assignment account) h = let p = places _ _ (of20 service agreement assignment account) h in record { sized = long-as _ _ (fit-widths _ _ (of20 service agreement assignment account) h); typed = ap kindFor (code-read 20 (nth 3 p) refl); fed = nth 8 p }
 shaped _ _ (of30 service type n date party amount kid) h = let p = places _ _ (of30 service type n date party amount kid) h in record { sized = long-as _ _ (fit-widths _ _ (of30 service type n date party amount kid) h); typed = ap kindFor (code-read 30 (nth 3 p) refl); fed = nth 10 p }
 shaped _ _ (of31 service type n text6 text7 text8) h = let p = places _ _ (of31 service type n text6 text7 text8) h in record { sized = long-as _ _ (fit-widths _ _ (of31 service type n text6 text7 text8) h); typed = ap kindFor (code-read 31 (nth 3 p) refl); fed = nth 9 p }
 shaped _ _ (of40 service type n name postal filler area) h = let p = places _ _ (of40 service type n name postal filler area) h in record { sized = long-as _ _ (fit-widths _ _ (of40 service type n name postal filler area) h); typed = ap kindFor (code-read 40 (nth 3 p) refl); fed = nth 10 p }
-shaped _ _ (of49 service type n line column words) h = let p = places _ _ (of49 service type n line column words) h in record { sized = long-as _ _ (fit-widths _ _ (of49 service type n line column words) h); typed = ap kindFor (code-read 49 (nth 3 p) refl); fed = nth 10 p }
+shaped _ _ (of41 service type n address1 address2 country) h = let p = places _ _ (of41 service type n address1 address2 country) h in record { sized = long-as _ _ (fit-widths _ _ (of41 service type n address1 address2 country) h); typed = ap kindFor (code-read 41 (nth 3 p) refl); fed = nth 9 p }
+shaped _ _ (of49 service type n line column words) h = shaped49 service type n line column words (eqb service 4) h
 shaped _ _ (of50 service type n kid amount) h = let p = places _ _ (of50 service type n kid amount) h in record { sized = long-as _ _ (fit-widths _ _ (of50 service type n kid amount) h); typed = ap kindFor (code-read 50 (nth 3 p) refl); fed = nth 8 p }
 
 -- of the values of a record that is made, each is read from it; and it has 81 bytes, which lie over the start of the buffer
@@ -245,11 +284,6 @@ made-saved kind ps v out e =
     }
 
 -- ---- in a file
-hold-behind : (f : Totals) (ks r : List ℕ) (ws vs : List Row) → AllHold f ks r (ws ++ vs) → AllHold f ks r vs
-unfolding AllHold
-hold-behind f ks r [] vs h = h
-hold-behind f ks r (w ∷ ws) vs h = hold-behind f ks r ws vs (h .1)
-
 keep : (f : Totals) (ks r : List ℕ) (w : Row) (ws vs : List Row) → firstFault f ks r ws ≡ firstFault f ks r vs → firstFault f ks r (w ∷ ws) ≡ firstFault f ks r (w ∷ vs)
 unfolding firstFault
 keep f ks r w ws vs e = ap (λ (x : Finding). if passes f ks r w then x else Fault (rowNumber w) (rowField w)) e
@@ -262,6 +296,19 @@ left-over f ks r (at k from to x ∷ ws) h = next f ks r (at k from to x) ws (h 
 left-over f ks r (must t n k ∷ ws) h = keep f ks r (must t n k) ws (otherRows ws) (left-over f ks r ws (hold-behind none [] r (listedFor r k) (ownRows r ws) h))
 left-over f ks r (file t n k ∷ ws) h = keep f ks r (file t n k) ws (otherRows ws) (left-over f ks r ws (hold-behind none [] r (listedFor r k) (ownRows r ws) h))
 
+-- own rules piece by piece
+own-joined : (r : List ℕ) (ws vs : List Row) → ownRows r (ws ++ vs) ≡ ownRows r ws ++ ownRows r vs
+unfolding ownRows
+own-joined r [] vs = refl
+own-joined r (at k from to x ∷ ws) vs = ap (λ (l : List Row). at k from to x ∷ l) (own-joined r ws vs)
+own-joined r (must t n k ∷ ws) vs = ap (λ (l : List Row). listedFor r k ++ l) (own-joined r ws vs) ∙ sym (append-assoc (listedFor r k) (ownRows r ws) (ownRows r vs))
+own-joined r (file t n k ∷ ws) vs = ap (λ (l : List Row). listedFor r k ++ l) (own-joined r ws vs) ∙ sym (append-assoc (listedFor r k) (ownRows r ws) (ownRows r vs))
+
+-- a 49 by itself has no place to hold its own against
+own49 : (places : ℕ) (r : List ℕ) → ownRows r (fields49 places r) ≡ ownRows r (notification49 (serviceCode r)) ++ ownRows r (message49 (messageOf (serviceCode r)) 0 r)
+unfolding ownRows
+own49 places r = own-joined r (notification49 (serviceCode r)) (message49 (messageOf (serviceCode r)) places r)
+
 -- a table's own rules are the same whatever the process day and the assignment
 own-anywhere : (k : Kind) (w : Window) (a : Assignment) (r : List ℕ) → ownTable k r ≡ ownRows r (tableFor k w a r)
 unfolding ownTable ownRows
@@ -270,7 +317,11 @@ own-anywhere R20 w a r = refl
 own-anywhere R30 w a r = refl
 own-anywhere R31 w a r = refl
 own-anywhere R40 w a r = refl
-own-anywhere R49 w a r = refl
+own-anywhere R41 w a r = refl
+own-anywhere R49 w a r =
+    own-joined r (repeats (nothingYet Other) r) (fields49 0 r)
+    ∙ ap (λ (l : List Row). ownRows r (repeats a r) ++ l) (own49 0 r ∙ sym (own49 (a .places) r))
+    ∙ sym (own-joined r (repeats a r) (fields49 (a .places) r))
 own-anywhere R50 w a r = refl
 own-anywhere R88 w a r = refl
 own-anywhere R89 w a r = refl

@@ -10,7 +10,7 @@ use Rattle.dates.specs.declared.Window.{Window}
 use Rattle.figures.specs.Totals.{_⊕_}
 use Rattle.figures.specs.declared.totals.Totals.{Totals}
 use Rattle.figures.proofs.Laws.{⊕-assoc, ⊕-none, none-⊕}
-use Rattle.layout.specs.Rows.{firstFault}
+use Rattle.layout.specs.Rows.{Row, firstFault, AllHold}
 use Rattle.layout.specs.declared.Finding.{Finding}
 use Rattle.layout.specs.declared.Finding.the-variants.{Sound, Fault}
 use Rattle.layout.proofs.Laws.{sound-of-all, all-of-sound}
@@ -44,6 +44,12 @@ turns-join a (x ∷ xs) ys = turns-join (turn x a) xs ys
 
 refused-not-accepted : (r : Refusal) (t : Totals) → Refused r ≡ Accepted t → ⊥
 refused-not-accepted r t e = let z : _≡_ {A = ℕ} 0 1 = cc in omega arith
+
+-- rows behind others that hold
+pub hold-behind : (f : Totals) (ks r : List ℕ) (ws vs : List Row) → AllHold f ks r (ws ++ vs) → AllHold f ks r vs
+unfolding AllHold
+hold-behind f ks r [] vs h = h
+hold-behind f ks r (w ∷ ws) vs h = hold-behind f ks r ws vs (h .1)
 
 -- a run that accepts
 pub record Ran (m : Mode) (w : Window) (f : Totals) (ks : List ℕ) (a : Assignment) (rs : List (List ℕ)) (t : Totals) : Type 0 where

@@ -4,10 +4,10 @@ use Prim.Native.Nat.{ℕ, _+_, _*_, _-_, _≤_, _<_}
 use mathlib.Core.Path.{_≡_, ap, _∙_}
 use mathlib.Core.Logic.{_↔_}
 use mathlib.Core.List.{List}
-use mathlib.Core.Bool.{true}
+use mathlib.Core.Bool.{Bool, true, false}
 use native.Mathlib.Omega.{arith}
 use borrow.Author.Tests.{leb-true}
-use lib.Dec.{leb}
+use lib.Dec.{leb, eqb}
 use lib.ListN.{length}
 use Rattle.fields.specs.Bytes.{every, isDigit, Inside}
 use Rattle.fields.specs.Numbers.{Number}
@@ -16,13 +16,14 @@ use Rattle.fields.proofs.Values.{number-yes}
 use Rattle.fields.proofs.Width.{value-below, digit-field, part-length}
 use Rattle.figures.specs.declared.totals.Totals.{Totals}
 use Rattle.layout.specs.Rows.{AllHold}
-use Rattle.rules.specs.Codes.{keyIn}
-use Rattle.rules.specs.Fields.{Field, bytesIn, numberIn, agreementField, assignmentField, lineField, columnField}
-use Rattle.rules.specs.Layouts.{record20, record49}
-use Rattle.rules.specs.Messages.{placeIn}
+use Rattle.rules.specs.Codes.{keyIn, serviceCode}
+use Rattle.rules.specs.Fields.{Field, bytesIn, numberIn, agreementField, assignmentField, messageOf, messageBy}
+use Rattle.rules.specs.Layouts.{record20, record49, notification49, message49}
+use Rattle.rules.specs.Messages.{placeAt}
 use Rattle.rules.specs.Payments.{isLine, isColumn}
 use Rattle.rules.specs.declared.Assignment.{Assignment}
 use Rattle.laws.specs.Tells.{Keyed, Placed, Agree}
+use Rattle.laws.proofs.Sound.{hold-behind}
 
 -- ---- a field of digits
 -- equal numbers are equal bytes
@@ -56,32 +57,42 @@ key-tells-both r s k l = (there, λ v. λ i. v .0 .numbers i * 10_000_000 + v .1
           agree assignmentField r s (omega arith, omega arith, omega (arith, k .sized)) (omega arith, omega arith, omega (arith, l .sized)) (k .assignment) (l .assignment) (v .1),
         )
 
--- ---- line and column
-module _ (r : List ℕ) (p : Placed r) where
-  line-digits : every isDigit (bytesIn lineField r) ≡ true
+-- ---- line and column, where the service has them
+module _ (service : ℕ) (r : List ℕ) (p : Placed service r) where
+  line-digits : every isDigit (bytesIn (messageOf service .line) r) ≡ true
   unfolding isLine
   line-digits = and-left _ _ (p .line)
 
-  column-is : (every isDigit (bytesIn columnField r) ≡ true) × (1 ≤ numberIn columnField r) × (numberIn columnField r ≤ 2)
+  column-is : (every isDigit (bytesIn (messageOf service .column) r) ≡ true) × (1 ≤ numberIn (messageOf service .column) r) × (numberIn (messageOf service .column) r ≤ 2)
   unfolding isColumn
   column-is =
-      let b = and-right (every isDigit (bytesIn columnField r)) _ (p .column) in
-      (and-left _ _ (p .column), leb-true 1 _ (and-left (leb 1 (numberIn columnField r)) _ b), leb-true _ 2 (and-right (leb 1 (numberIn columnField r)) _ b))
+      let b = and-right (every isDigit (bytesIn (messageOf service .column) r)) _ (p .column) in
+      (and-left _ _ (p .column), leb-true 1 _ (and-left (leb 1 (numberIn (messageOf service .column) r)) _ b), leb-true _ 2 (and-right (leb 1 (numberIn (messageOf service .column) r)) _ b))
+
+  -- both stand inside the record
+  inside : Inside (messageOf service .line .from) (messageOf service .line .to) r × Inside (messageOf service .column .from) (messageOf service .column .to) r
+  unfolding messageOf
+  inside = go (eqb service 4)
+    where
+      go : (b : Bool) → let m = messageBy b in Inside (m .line .from) (m .line .to) r × Inside (m .column .from) (m .column .to) r
+      go true = ((omega arith, omega arith, omega (arith, p .sized)), (omega arith, omega arith, omega (arith, p .sized)))
+      go false = ((omega arith, omega arith, omega (arith, p .sized)), (omega arith, omega arith, omega (arith, p .sized)))
 
 halves : (a b c d : ℕ) → 1 ≤ b → b ≤ 2 → 1 ≤ d → d ≤ 2 → a * 2 + b ≡ c * 2 + d → (a ≡ c) × (b ≡ d)
 halves a b c d p q s t e = (omega arith, omega arith)
 
--- two records take one place exactly when they agree in both
-pub place-tells-both : (r s : List ℕ) → Placed r → Placed s → (placeIn r ≡ placeIn s) ↔ (Agree lineField r s × Agree columnField r s)
-place-tells-both r s p q = (there, λ v. λ i. v .0 .numbers i * 2 + v .1 .numbers i)
+-- two records of a service take one place exactly when they agree in both
+pub place-tells-both : (service : ℕ) (r s : List ℕ) → Placed service r → Placed service s
+    → (placeAt (messageOf service) r ≡ placeAt (messageOf service) s) ↔ (Agree (messageOf service .line) r s × Agree (messageOf service .column) r s)
+place-tells-both service r s p q = (there, λ v. λ i. v .0 .numbers i * 2 + v .1 .numbers i)
   where
-    there : placeIn r ≡ placeIn s → Agree lineField r s × Agree columnField r s
+    there : placeAt (messageOf service) r ≡ placeAt (messageOf service) s → Agree (messageOf service .line) r s × Agree (messageOf service .column) r s
     there e =
-        let x = column-is r p in
-        let y = column-is s q in
+        let x = column-is service r p in
+        let y = column-is service s q in
         let v = halves _ _ _ _ (x .1) (x .2) (y .1) (y .2) e in (
-          agree lineField r s (omega arith, omega arith, omega (arith, p .sized)) (omega arith, omega arith, omega (arith, q .sized)) (line-digits r p) (line-digits s q) (v .0),
-          agree columnField r s (omega arith, omega arith, omega (arith, p .sized)) (omega arith, omega arith, omega (arith, q .sized)) (x .0) (y .0) (v .1),
+          agree (messageOf service .line) r s (inside service r p .0) (inside service s q .0) (line-digits service r p) (line-digits service s q) (v .0),
+          agree (messageOf service .column) r s (inside service r p .1) (inside service s q .1) (x .0) (y .0) (v .1),
         )
 
 -- ---- the records that are asked for them
@@ -91,7 +102,9 @@ module _ (f : Totals) (ks r : List ℕ) (a : Assignment) (z : length r ≡ 81) w
   unfolding AllHold
   keyed-20 h = record { sized = z; agreement = h .1 .1 .1 .1 .1 .0; assignment = h .1 .1 .1 .1 .1 .1 .0 }
 
-  -- a record 49 that meets its rules has a sound place
-  pub placed-49 : AllHold f ks r (record49 a r) → Placed r
+  -- a record 49 that meets its rules has a sound place, in either service
+  pub placed-49 : AllHold f ks r (record49 a r) → Placed (serviceCode r) r
   unfolding AllHold
-  placed-49 h = record { sized = z; line = h .1 .1 .1 .1 .1 .1 .0; column = h .1 .1 .1 .1 .1 .1 .1 .0 }
+  placed-49 h =
+      let m = hold-behind f ks r (notification49 (serviceCode r)) (message49 (messageOf (serviceCode r)) (a .places) r) (h .1 .1 .1 .1 .1) in
+      record { sized = z; line = m .0; column = m .1 .0 }

@@ -13,12 +13,12 @@ use Rattle.rules.proofs.Codes.{at-codes}
 use Rattle.rules.specs.Growth.{turnFor}
 use Rattle.rules.specs.declared.Assignment.{Assignment}
 use Rattle.rules.specs.declared.Kind.{Kind}
-use Rattle.rules.specs.declared.Kind.the-variants.{R10, R20, R30, R31, R40, R49, R50, R88, R89, Other}
+use Rattle.rules.specs.declared.Kind.the-variants.{R10, R20, R30, R31, R40, R41, R49, R50, R88, R89, Other}
 use Rattle.laws.specs.Stripped.{anEnd}
 
 -- ---- what holds of each type holds of all
 abbrev codes : List ℕ
-codes = 10 ∷ 20 ∷ 30 ∷ 31 ∷ 40 ∷ 49 ∷ 50 ∷ 88 ∷ 89 ∷ 0 ∷ []
+codes = 10 ∷ 20 ∷ 30 ∷ 31 ∷ 40 ∷ 41 ∷ 49 ∷ 50 ∷ 88 ∷ 89 ∷ 0 ∷ []
 
 abbrev pub eachKind : (Kind → Bool) → Bool
 eachKind p = every (λ n. p (kindFor n)) codes
@@ -30,11 +30,12 @@ of-kind p h R20 = every-at (λ n. p (kindFor n)) codes 1 h (lit< tt)
 of-kind p h R30 = every-at (λ n. p (kindFor n)) codes 2 h (lit< tt)
 of-kind p h R31 = every-at (λ n. p (kindFor n)) codes 3 h (lit< tt)
 of-kind p h R40 = every-at (λ n. p (kindFor n)) codes 4 h (lit< tt)
-of-kind p h R49 = every-at (λ n. p (kindFor n)) codes 5 h (lit< tt)
-of-kind p h R50 = every-at (λ n. p (kindFor n)) codes 6 h (lit< tt)
-of-kind p h R88 = every-at (λ n. p (kindFor n)) codes 7 h (lit< tt)
-of-kind p h R89 = every-at (λ n. p (kindFor n)) codes 8 h (lit< tt)
-of-kind p h Other = every-at (λ n. p (kindFor n)) codes 9 h (lit< tt)
+of-kind p h R41 = every-at (λ n. p (kindFor n)) codes 5 h (lit< tt)
+of-kind p h R49 = every-at (λ n. p (kindFor n)) codes 6 h (lit< tt)
+of-kind p h R50 = every-at (λ n. p (kindFor n)) codes 7 h (lit< tt)
+of-kind p h R88 = every-at (λ n. p (kindFor n)) codes 8 h (lit< tt)
+of-kind p h R89 = every-at (λ n. p (kindFor n)) codes 9 h (lit< tt)
+of-kind p h Other = every-at (λ n. p (kindFor n)) codes 10 h (lit< tt)
 
 -- ---- a type by its number, and a number by its type
 again : (k : Kind) → kindFor (numberOfKind k) ≡ k
@@ -44,6 +45,7 @@ again R20 = refl
 again R30 = refl
 again R31 = refl
 again R40 = refl
+again R41 = refl
 again R49 = refl
 again R50 = refl
 again R88 = refl
@@ -56,15 +58,15 @@ type-by k n e = sym (again k) ∙ ap kindFor (eqb-true (numberOfKind k) n e)
 pub type-of : (n c : ℕ) → eqb n c ≡ true → kindFor n ≡ kindFor c
 type-of n c e = ap kindFor (eqb-true n c e)
 
--- a code that is none of the nine has no type, so a type tells its code
+-- a code that is none of the ten has no type, so a type tells its code
 Told : ℕ → Type 0
 Told n = (kindFor n ≡ Other → ⊥) → n ≡ numberOfKind (kindFor n)
 
 told : (n : ℕ) → Told n
 unfolding kindFor Told
 told n =
-    at-codes Told n (λ x. refl) (λ x. refl) (λ x. refl) (λ x. refl) (λ x. refl) (λ x. refl) (λ x. refl) (λ x. refl) (λ x. refl)
-    (λ a b c d e f g h i x. absurd (x (simp (a, b, c, d, e, f, g, h, i))))
+    at-codes Told n (λ x. refl) (λ x. refl) (λ x. refl) (λ x. refl) (λ x. refl) (λ x. refl) (λ x. refl) (λ x. refl) (λ x. refl) (λ x. refl)
+    (λ a b c d e f g h i j x. absurd (x (simp (a, b, c, d, e, f, g, h, i, j))))
 
 pub code-is : (r : List ℕ) (k : Kind) → kindOf r ≡ k → (k ≡ Other → ⊥) → recordCode r ≡ numberOfKind k
 unfolding Told
@@ -92,6 +94,7 @@ last-is R20 r a o = refl
 last-is R30 r a o = refl
 last-is R31 r a o = refl
 last-is R40 r a o = refl
+last-is R41 r a o = refl
 last-is R49 r a o = refl
 last-is R50 r a o = refl
 last-is R88 r a o = refl

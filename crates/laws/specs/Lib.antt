@@ -8,4 +8,5 @@ pub mod View
 pub mod Joinable
 pub mod Partable
 pub mod Tells
+pub mod Messages
 pub mod Saved

@@ -1,4 +1,4 @@
--- Document 01, "Layouts" (fields 5 and 6 of record 20) and "What may follow" (the places of a message): one number stands for two fields.
+-- Document 01, "Layouts" (fields 5 and 6 of record 20) and "What may follow" (the places of a message, document 02, No. 2, for both services): one number stands for two fields.
 -- Assumes nothing.
 use Prim.Native.Nat.{ℕ}
 use mathlib.Core.Path.{_≡_}
@@ -7,7 +7,7 @@ use mathlib.Core.Bool.{true}
 use lib.ListN.{length}
 use Rattle.fields.specs.Bytes.{every, isDigit}
 use Rattle.limits.specs.Limits.{recordBytes}
-use Rattle.rules.specs.Fields.{Field, bytesIn, numberIn, agreementField, assignmentField, lineField, columnField}
+use Rattle.rules.specs.Fields.{Field, bytesIn, numberIn, agreementField, assignmentField, messageOf}
 use Rattle.rules.specs.Payments.{isLine, isColumn}
 
 -- a record whose agreement and assignment number are Digits
@@ -16,11 +16,11 @@ pub record Keyed (r : List ℕ) : Type 0 where
   pub agreement : every isDigit (bytesIn agreementField r) ≡ true
   pub assignment : every isDigit (bytesIn assignmentField r) ≡ true
 
--- a record whose line and column are sound
-pub record Placed (r : List ℕ) : Type 0 where
+-- a record whose line and column are sound, where the service of this code has them
+pub record Placed (service : ℕ) (r : List ℕ) : Type 0 where
   pub sized : length r ≡ recordBytes
-  pub line : isLine (bytesIn lineField r) ≡ true
-  pub column : isColumn (bytesIn columnField r) ≡ true
+  pub line : isLine (bytesIn (messageOf service .line) r) ≡ true
+  pub column : isColumn (bytesIn (messageOf service .column) r) ≡ true
 
 -- two records agree in a field, in its bytes and in its number
 pub record Agree (x : Field) (r s : List ℕ) : Type 0 where

@@ -1,26 +1,27 @@
 -- A record made from capped numbers is the record made from the numbers: what is too long is refused as such, whatever its bytes.
 -- Assumes nothing.
 use Prim.Native.Nat.{ℕ, _+_, _^_, _≤_, _<_}
-use mathlib.Core.Path.{_≡_, refl, sym, ap, ap₂, _∙_}
+use mathlib.Core.Path.{_≡_, refl, sym, ap, ap₂, subst, _∙_}
 use mathlib.Core.List.{List, [], _∷_, _++_}
 use mathlib.Core.Bool.{Bool, true, false, false≢true}
 use native.Mathlib.Nat.{pow-le-pow-right}
 use native.Mathlib.Omega.{arith}
-use borrow.Author.Tests.{ltb-true, ltb-false, le-ltb}
-use lib.Dec.{ltb, lit<}
+use borrow.Author.Tests.{ltb-true, ltb-false, le-ltb, eq-eqb, ne-eqb}
+use lib.Dec.{eqb, ltb, lit<}
 use lib.ListN.{length, getD}
 use lib.Seq.{getD-drop}
 use Rattle.choice.specs.Choice.{if_then_else_}
 use Rattle.fields.specs.Numbers.{value}
 use Rattle.layout.specs.declared.Finding.{Finding}
 use Rattle.layout.specs.declared.Finding.the-variants.{Sound, Fault}
+use Rattle.rules.specs.Fields.{Message, message01, message04, messageOf, messageBy}
 use Rattle.rules.specs.declared.Kind.{Kind}
-use Rattle.operations.specs.Making.{Put, number, left, right, recordFrom, tooLong, onSound, judged, makeOf, lentRecord, madeBytes}
+use Rattle.operations.specs.Making.{Put, number, left, right, fixed, notification, message, recordFrom, tooLong, onSound, judged, makeOf, lentRecord, madeBytes, codeBy}
 use Rattle.operations.specs.Promises.{MakePromise}
 use Rattle.operations.specs.declared.Making.{Making}
-use Rattle.make_lines.specs.Lines.{valuesOf, cap, capped}
-use Rattle.make_lines.specs.Draft.{givenIn, numberAt, textAt}
-use Rattle.make_lines.proofs.Numbers.{capped-low, capped-high}
+use Rattle.make_lines.specs.Lines.{valuesOf, isNumeral, cap, capped}
+use Rattle.make_lines.specs.Draft.{serviceGiven, givenIn, numberAt, textAt}
+use Rattle.make_lines.proofs.Numbers.{capped-low, capped-high, capped-four}
 
 -- two values fit alike, and where they fit they are the same bytes
 pub record Alike (p q : Put) : Type 0 where
@@ -105,3 +106,49 @@ module _ (s : List ℕ) (i : ℕ) where
 
   pub given-right : (k w : ℕ) (t : List ℕ) → t ≡ getD (valuesOf s) (1 + i) [] → Alike (right k w t) (right k w (textAt i (givenIn s)))
   given-right k w t e = same-put (ap (right k w) (e ∙ sym (getD-drop 1 (valuesOf s) i [])))
+
+-- ---- the service that a line gives
+module _ (s : List ℕ) (a : ℕ) (e : a ≡ capped (value (getD (valuesOf s) 1 []))) where
+  four : eqb a 4 ≡ eqb (numberAt 0 (givenIn s)) 4
+  four = ap (λ (x : ℕ). eqb x 4) (e ∙ ap (λ (x : List ℕ). capped (value x)) (sym (getD-drop 1 (valuesOf s) 0 []))) ∙ capped-four (numberAt 0 (givenIn s))
+
+  pub another-service : (a ≡ 4 → ⊥) → 1 ≡ serviceGiven (givenIn s)
+  unfolding serviceGiven
+  another-service h = rw (sym four ∙ ne-eqb a 4 h) refl
+
+  pub service-four : (b : Bool) → a ≡ 4 → isNumeral (getD (valuesOf s) 1 []) ≡ b → (if b then 4 else 1) ≡ serviceGiven (givenIn s)
+  unfolding serviceGiven
+  service-four b h q = rw (sym four ∙ eq-eqb a 4 h, ap isNumeral (getD-drop 1 (valuesOf s) 0 []) ∙ q) refl
+
+  -- a message, from its notification code on, with the fields of that service
+  pub given-message : (l c : ℕ) (w : List ℕ) → l ≡ capped (value (getD (valuesOf s) 4 [])) → c ≡ capped (value (getD (valuesOf s) 5 [])) → w ≡ getD (valuesOf s) 6 []
+      → let vs = givenIn s in
+      AllAlike (notification a ++ message (messageOf a) l c w) (notification (numberAt 0 vs) ++ message (messageOf (numberAt 0 vs)) (numberAt 3 vs) (numberAt 4 vs) (textAt 5 vs))
+  unfolding notification messageOf
+  given-message l c w el ec ew = subst (λ (b : Bool). AllAlike (tail b l c w) (tail (eqb (numberAt 0 vs) 4) l' c' w')) (sym four) (go (eqb (numberAt 0 vs) 4))
+    where
+      vs : List (List ℕ)
+      vs = givenIn s
+
+      l' : ℕ
+      l' = numberAt 3 vs
+
+      c' : ℕ
+      c' = numberAt 4 vs
+
+      w' : List ℕ
+      w' = textAt 5 vs
+
+      tail : Bool → ℕ → ℕ → List ℕ → List Put
+      tail b x y z = codeBy b ++ message (messageBy b) x y z
+
+      from-line : (m : Message) → AllAlike (message m l c w) (message m l' c' w')
+      from-line m =
+          also (given-number s 3 (m .line .number) 3 l (omega arith) el)
+          (also (given-number s 4 (m .column .number) 1 c (omega arith) ec)
+          (also (given-left s 5 (m .text .number) 40 w ew)
+          (also (same-put refl) none)))
+
+      go : (b : Bool) → AllAlike (tail b l c w) (tail b l' c' w')
+      go true = from-line message04
+      go false = also (same-put refl) (from-line message01)

@@ -1,6 +1,6 @@
 -- The values of a line against what its record type asks for: how many there are, and which are numbers.
 -- Assumes nothing.
-use Prim.Native.Nat.{ℕ, suc, _+_, _-_, _≤_, _<_, zero-le}
+use Prim.Native.Nat.{ℕ, suc, _+_, _-_, _≤_, _<_}
 use mathlib.Core.Path.{_≡_, refl, sym, ap, ap₂, _∙_}
 use mathlib.Core.List.{List, [], _∷_}
 use mathlib.Core.Bool.{Bool, true, false, _&&_}
@@ -111,13 +111,3 @@ module _ (ss : List Slot) (s : List ℕ) (i : ℕ) where
   pub numerals-end : length ss ≤ i → numerals (drop i ss) (drop i (givenIn s)) ≡ Sound
   unfolding numerals
   numerals-end k = ap (λ (x : List Slot). numerals x (drop i (givenIn s))) (drop-of-length-le ss k)
-
--- none of the first seven places
-next-place : (k i : ℕ) → k ≤ i → (i ≡ k → ⊥) → k + 1 ≤ i
-next-place k i h n = omega arith
-
-pub past-seven : (i : ℕ) → (i ≡ 0 → ⊥) → (i ≡ 1 → ⊥) → (i ≡ 2 → ⊥) → (i ≡ 3 → ⊥) → (i ≡ 4 → ⊥) → (i ≡ 5 → ⊥) → (i ≡ 6 → ⊥) → 7 ≤ i
-past-seven i p0 p1 p2 p3 p4 p5 p6 = one 6 (one 5 (one 4 (one 3 (one 2 (one 1 (one 0 zero-le p0) p1) p2) p3) p4) p5) p6
-  where
-    one : (k : ℕ) → k ≤ i → (i ≡ k → ⊥) → k + 1 ≤ i
-    one k h n = next-place k i h n

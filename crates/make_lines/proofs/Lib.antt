@@ -5,3 +5,4 @@ pub mod Caps
 pub mod Made
 pub mod Drafts
 pub mod Saved
+pub mod Packed

@@ -5,8 +5,8 @@ use mathlib.Core.Path.{_≡_, refl, sym, ap, _∙_}
 use mathlib.Core.List.{List, [], _∷_}
 use mathlib.Core.Bool.{Bool, true, false}
 use native.Mathlib.Omega.{arith}
-use borrow.Author.Tests.{lt-ltb, le-ltb, ltb-true, ltb-false}
-use lib.Dec.{ltb}
+use borrow.Author.Tests.{lt-ltb, le-ltb, ltb-true, ltb-false, ne-eqb}
+use lib.Dec.{eqb, ltb}
 use lib.ListN.{length, getD, drop}
 use Rattle.choice.specs.Choice.{if_then_else_}
 use Rattle.fields.specs.Bytes.{every, isDigit}
@@ -37,6 +37,16 @@ capped-same n l = go (ltb n cap) refl
     go : (t : Bool) → ltb n cap ≡ t → (if t then n else cap) ≡ n
     go true h = refl
     go false h = omega (arith, ltb-false n cap h)
+
+-- 4 is below the cap, so what is capped is 4 where it was
+pub capped-four : (n : ℕ) → eqb (capped n) 4 ≡ eqb n 4
+capped-four n = go (ltb n cap) refl
+  where
+    go : (t : Bool) → ltb n cap ≡ t → eqb (capped n) 4 ≡ eqb n 4
+    go true h = ap (λ (x : ℕ). eqb x 4) (capped-low n (ltb-true n cap h))
+    go false h =
+        let k = ltb-false n cap h in
+        ap (λ (x : ℕ). eqb x 4) (capped-high n k) ∙ sym (ne-eqb n 4 (λ e. omega arith))
 
 -- one digit more: whether the number before it was capped makes no difference
 capped-more : (n d : ℕ) → capped (capped n * 10 + d) ≡ capped (n * 10 + d)

@@ -12,12 +12,12 @@ use Rattle.layout.specs.declared.Finding.{Finding}
 use Rattle.layout.specs.declared.Finding.the-variants.{Sound, Fault}
 use Rattle.limits.specs.Limits.{recordBytes}
 use Rattle.rules.specs.declared.Kind.{Kind}
-use Rattle.rules.specs.declared.Kind.the-variants.{R10, R20, R30, R31, R40, R49, R50, R88, R89, Other}
+use Rattle.rules.specs.declared.Kind.the-variants.{R10, R20, R30, R31, R40, R41, R49, R50, R88, R89, Other}
 use Rattle.rules.specs.declared.Refusal.{Refusal}
 use Rattle.operations.specs.Making.{onSound, makeOf}
 use Rattle.operations.specs.declared.Making.{Making}
 use Rattle.operations.specs.declared.Making.the-variants.{Made, NotMade}
-use Rattle.laws.specs.Makable.{Values, of10, of20, of30, of31, of40, of49, of50}
+use Rattle.laws.specs.Makable.{Values, of10, of20, of30, of31, of40, of41, of49, of50}
 use Rattle.laws.specs.Saved.{Saved}
 use Rattle.laws.proofs.Making.{made-sized}
 use Rattle.make_lines.specs.Lines.{linesOf, passedOver, bearing}
@@ -36,6 +36,7 @@ values-of R20 vs h = of20 (numberAt 0 vs) (numberAt 1 vs) (numberAt 2 vs) (numbe
 values-of R30 vs h = of30 (numberAt 0 vs) (numberAt 1 vs) (numberAt 2 vs) (numberAt 3 vs) (textAt 4 vs) (numberAt 5 vs) (textAt 6 vs)
 values-of R31 vs h = of31 (numberAt 0 vs) (numberAt 1 vs) (numberAt 2 vs) (textAt 3 vs) (textAt 4 vs) (textAt 5 vs)
 values-of R40 vs h = of40 (numberAt 0 vs) (numberAt 1 vs) (numberAt 2 vs) (textAt 3 vs) (textAt 4 vs) (textAt 5 vs) (textAt 6 vs)
+values-of R41 vs h = of41 (numberAt 0 vs) (numberAt 1 vs) (numberAt 2 vs) (textAt 3 vs) (textAt 4 vs) (textAt 5 vs)
 values-of R49 vs h = of49 (numberAt 0 vs) (numberAt 1 vs) (numberAt 2 vs) (numberAt 3 vs) (numberAt 4 vs) (textAt 5 vs)
 values-of R50 vs h = of50 (numberAt 0 vs) (numberAt 1 vs) (numberAt 2 vs) (textAt 3 vs) (numberAt 4 vs)
 values-of R88 vs h = absurd (no-truth h)

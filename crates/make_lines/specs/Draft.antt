@@ -3,7 +3,7 @@
 use Prim.Native.Nat.{ℕ, _+_, _-_}
 use mathlib.Core.Path.{_≡_}
 use mathlib.Core.List.{List, [], _∷_, _++_}
-use mathlib.Core.Bool.{Bool, true, false}
+use mathlib.Core.Bool.{Bool, true, false, _&&_}
 use lib.Dec.{eqb, leb}
 use lib.ListN.{length, getD, drop}
 use Rattle.choice.specs.Choice.{if_then_else_}
@@ -13,10 +13,11 @@ use Rattle.fields.specs.Numbers.{value}
 use Rattle.layout.specs.Findings.{orElse}
 use Rattle.layout.specs.declared.Finding.{Finding}
 use Rattle.layout.specs.declared.Finding.the-variants.{Sound, Fault}
+use Rattle.rules.specs.Fields.{messageOf}
 use Rattle.rules.specs.Refusals.{refusal}
 use Rattle.rules.specs.declared.Kind.{Kind}
-use Rattle.rules.specs.declared.Kind.the-variants.{R10, R20, R30, R31, R40, R49, R50, R88, R89, Other}
-use Rattle.operations.specs.Making.{Put, made10, made20, made30, made31, made40, made49, made50, recordFrom, onSound, makeOf, lentRecord}
+use Rattle.rules.specs.declared.Kind.the-variants.{R10, R20, R30, R31, R40, R41, R49, R50, R88, R89, Other}
+use Rattle.operations.specs.Making.{Put, made10, made20, made30, made31, made40, made41, made49, made50, recordFrom, onSound, makeOf, lentRecord}
 use Rattle.operations.specs.declared.Making.{Making}
 use Rattle.operations.specs.declared.Making.the-variants.{Made, NotMade}
 use Rattle.make_lines.specs.Lines.{linesOf, valuesOf, passedOver, bearing, isNumeral}
@@ -31,25 +32,26 @@ use Rattle.make_lines.specs.declared.Drafting.the-variants.{Drafted, Not
 unfoldable pub typeGiven : List ℕ → Kind
 typeGiven s =
     if same s (text "10") then R10 else (if same s (text "20") then R20 else (if same s (text "30") then R30 else (if same s (text "31") then R31 else
-    (if same s (text "40") then R40 else (if same s (text "49") then R49 else (if same s (text "50") then R50 else Other))))))
+    (if same s (text "40") then R40 else (if same s (text "41") then R41 else (if same s (text "49") then R49 else (if same s (text "50") then R50 else Other)))))))
 
 -- the field of a value
 abbrev pub fieldOf : Slot → ℕ
 fieldOf (Numeral k) = k
 fieldOf (Words k) = k
 
--- the values behind the record type, in their order
-abbrev pub slotsOf : Kind → List Slot
-slotsOf R10 = Numeral 5 ∷ Numeral 6 ∷ []
-slotsOf R20 = Numeral 2 ∷ Numeral 5 ∷ Numeral 6 ∷ Numeral 7 ∷ []
-slotsOf R30 = Numeral 2 ∷ Numeral 3 ∷ Numeral 5 ∷ Numeral 6 ∷ Words 7 ∷ Numeral 8 ∷ Words 9 ∷ []
-slotsOf R31 = Numeral 2 ∷ Numeral 3 ∷ Numeral 5 ∷ Words 6 ∷ Words 7 ∷ Words 8 ∷ []
-slotsOf R40 = Numeral 2 ∷ Numeral 3 ∷ Numeral 5 ∷ Words 6 ∷ Words 7 ∷ Words 8 ∷ Words 9 ∷ []
-slotsOf R49 = Numeral 2 ∷ Numeral 3 ∷ Numeral 5 ∷ Numeral 7 ∷ Numeral 8 ∷ Words 9 ∷ []
-slotsOf R50 = Numeral 2 ∷ Numeral 3 ∷ Numeral 5 ∷ Words 6 ∷ Numeral 7 ∷ []
-slotsOf R88 = []
-slotsOf R89 = []
-slotsOf Other = []
+-- the values behind the record type, in their order; a message has its fields by the service's code
+abbrev pub slotsOf : Kind → ℕ → List Slot
+slotsOf R10 s = Numeral 5 ∷ Numeral 6 ∷ []
+slotsOf R20 s = Numeral 2 ∷ Numeral 5 ∷ Numeral 6 ∷ Numeral 7 ∷ []
+slotsOf R30 s = Numeral 2 ∷ Numeral 3 ∷ Numeral 5 ∷ Numeral 6 ∷ Words 7 ∷ Numeral 8 ∷ Words 9 ∷ []
+slotsOf R31 s = Numeral 2 ∷ Numeral 3 ∷ Numeral 5 ∷ Words 6 ∷ Words 7 ∷ Words 8 ∷ []
+slotsOf R40 s = Numeral 2 ∷ Numeral 3 ∷ Numeral 5 ∷ Words 6 ∷ Words 7 ∷ Words 8 ∷ Words 9 ∷ []
+slotsOf R41 s = Numeral 2 ∷ Numeral 3 ∷ Numeral 5 ∷ Words 6 ∷ Words 7 ∷ Words 8 ∷ []
+slotsOf R49 s = Numeral 2 ∷ Numeral 3 ∷ Numeral 5 ∷ Numeral (messageOf s .line .number) ∷ Numeral (messageOf s .column .number) ∷ Words (messageOf s .text .number) ∷ []
+slotsOf R50 s = Numeral 2 ∷ Numeral 3 ∷ Numeral 5 ∷ Words 6 ∷ Numeral 7 ∷ []
+slotsOf R88 s = []
+slotsOf R89 s = []
+slotsOf Other s = []
 
 -- nothing but empty values, as a spreadsheet fills up its rows
 unfoldable pub allEmpty : List (List ℕ) → Bool
@@ -80,6 +82,10 @@ textAt i vs = getD vs i []
 abbrev pub numberAt : ℕ → List (List ℕ) → ℕ
 numberAt i vs = value (textAt i vs)
 
+-- the service that a line gives, as far as its fields go by it: 04 where the first value writes it, else as service 01
+unfoldable pub serviceGiven : List (List ℕ) → ℕ
+serviceGiven vs = if eqb (numberAt 0 vs) 4 && isNumeral (textAt 0 vs) then 4 else 1
+
 -- what the values of a line put into its record
 abbrev pub putsOf : Kind → List (List ℕ) → List Put
 putsOf R10 vs = made10 (numberAt 0 vs) (numberAt 1 vs)
@@ -87,6 +93,7 @@ putsOf R20 vs = made20 (numberAt 0 vs) (numberAt 1 vs) (numberAt 2 vs) (numberAt
 putsOf R30 vs = made30 (numberAt 0 vs) (numberAt 1 vs) (numberAt 2 vs) (numberAt 3 vs) (textAt 4 vs) (numberAt 5 vs) (textAt 6 vs)
 putsOf R31 vs = made31 (numberAt 0 vs) (numberAt 1 vs) (numberAt 2 vs) (textAt 3 vs) (textAt 4 vs) (textAt 5 vs)
 putsOf R40 vs = made40 (numberAt 0 vs) (numberAt 1 vs) (numberAt 2 vs) (textAt 3 vs) (textAt 4 vs) (textAt 5 vs) (textAt 6 vs)
+putsOf R41 vs = made41 (numberAt 0 vs) (numberAt 1 vs) (numberAt 2 vs) (textAt 3 vs) (textAt 4 vs) (textAt 5 vs)
 putsOf R49 vs = made49 (numberAt 0 vs) (numberAt 1 vs) (numberAt 2 vs) (numberAt 3 vs) (numberAt 4 vs) (textAt 5 vs)
 putsOf R50 vs = made50 (numberAt 0 vs) (numberAt 1 vs) (numberAt 2 vs) (textAt 3 vs) (numberAt 4 vs)
 putsOf R88 vs = []
@@ -95,7 +102,7 @@ putsOf Other vs = []
 
 -- how many values there are, then numbers
 abbrev pub slotsFound : Kind → List (List ℕ) → Finding
-slotsFound k vs = orElse (counted (slotsOf k) vs) (numerals (slotsOf k) vs)
+slotsFound k vs = orElse (counted (slotsOf k (serviceGiven vs)) vs) (numerals (slotsOf k (serviceGiven vs)) vs)
 
 -- the record types that lines have: the end records are made by closing
 abbrev pub isGiven : Kind → Bool
@@ -104,6 +111,7 @@ isGiven R20 = true
 isGiven R30 = true
 isGiven R31 = true
 isGiven R40 = true
+isGiven R41 = true
 isGiven R49 = true
 isGiven R50 = true
 isGiven R88 = false

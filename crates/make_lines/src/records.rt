@@ -68,6 +68,18 @@ fn made40(line: &[u8], out: &mut [u8]) -> Making
     make_record::make40(service, code, number, name, postal, filler, area, out)
 }
 
+fn made41(line: &[u8], out: &mut [u8]) -> Making
+    ensures { λ x. ⌜ MakePromise Kind.R41 (putsOf Kind.R41 (givenIn (now (line .entry)))) (now (out .entry)) x (now (out .exit)) ⌝ }
+{
+    let service = number_at(line, 1);
+    let code = number_at(line, 2);
+    let number = number_at(line, 3);
+    let address1 = value_at(line, 4);
+    let address2 = value_at(line, 5);
+    let country = value_at(line, 6);
+    make_record::make41(service, code, number, address1, address2, country, out)
+}
+
 fn made49(line: &[u8], out: &mut [u8]) -> Making
     ensures { λ x. ⌜ MakePromise Kind.R49 (putsOf Kind.R49 (givenIn (now (line .entry)))) (now (out .entry)) x (now (out .exit)) ⌝ }
 {
@@ -101,6 +113,7 @@ fn made_kind(kind: Kind, line: &[u8], out: &mut [u8]) -> Making
         Kind::R30 => made30(line, out),
         Kind::R31 => made31(line, out),
         Kind::R40 => made40(line, out),
+        Kind::R41 => made41(line, out),
         Kind::R49 => made49(line, out),
         Kind::R50 => made50(line, out),
         Kind::R88 => Making::Made,

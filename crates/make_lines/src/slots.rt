@@ -1,11 +1,14 @@
 // What the values of a line stand for, by its record type, and what is found in them before a record is made.
 
+ghost use Prim.Native.Nat.{ℕ};
 ghost use mathlib.Core.Path.{_≡_};
 ghost use lib.ListN.{length, getD};
 ghost use Rattle.fields.specs.Bytes.{same};
-ghost use Rattle.make_lines.specs.Draft.{typeGiven, slotsOf, fieldOf, slotFound, counted, numerals, slotsFound, isGiven, faultIn, kindIn, givenIn};
+ghost use Rattle.make_lines.specs.Draft.{typeGiven, slotsOf, fieldOf, slotFound, counted, numerals, serviceGiven, slotsFound, isGiven, faultIn, kindIn, givenIn};
+ghost use Rattle.make_lines.specs.Packed.{packed};
 use crate::lines::find;
 use crate::lines::is_numeral;
+use crate::lines::number_at;
 use crate::lines::only_semicolons;
 use crate::lines::past;
 use crate::lines::value_at;
@@ -46,6 +49,9 @@ fn type_given(s: &[u8]) -> Kind
     if is_type(s, b"40") {
         return Kind::R40;
     }
+    if is_type(s, b"41") {
+        return Kind::R41;
+    }
     if is_type(s, b"49") {
         return Kind::R49;
     }
@@ -61,9 +67,22 @@ pub fn kind_in(line: &[u8]) -> Kind
     type_given(value_at(line, 0))
 }
 
+// The service that a line gives, as far as its fields go by it: 4, or as service 01.
+pub fn service_in(line: &[u8]) -> u8
+    ensures { λ x. ⌜ x ≡ serviceGiven (givenIn (now (line .entry))) ⌝ }
+{
+    if number_at(line, 1) != 4 {
+        return 1;
+    }
+    if is_numeral(value_at(line, 1)) {
+        return 4;
+    }
+    1
+}
+
 // How many values stand behind the record type.
 pub fn slots_in(kind: Kind) -> usize
-    ensures { λ n. ⌜ n ≡ length (slotsOf kind) ⌝ }
+    ensures { λ n. ⌜ ((s : ℕ) → n ≡ length (slotsOf kind s)) ⌝ }
 {
     match kind {
         Kind::R10 => 2,
@@ -71,6 +90,7 @@ pub fn slots_in(kind: Kind) -> usize
         Kind::R30 => 7,
         Kind::R31 => 6,
         Kind::R40 => 7,
+        Kind::R41 => 6,
         Kind::R49 => 6,
         Kind::R50 => 5,
         Kind::R88 => 0,
@@ -79,115 +99,47 @@ pub fn slots_in(kind: Kind) -> usize
     }
 }
 
-// The values of each record type, in their order; behind the last a text of no field.
-fn slot10(i: usize) -> Slot
-    ensures { λ x. ⌜ x ≡ getD (slotsOf Kind.R10) i (Slot.Words 0) ⌝ }
+// The values of a message, as slots_of has them: in service 04 line, column and text are one field lower.
+fn message_slots(service: u8) -> u64
+    ensures { λ x. ⌜ x ≡ packed (slotsOf Kind.R49 service) ⌝ }
 {
-    match i {
-        0 => Slot::Numeral(5),
-        1 => Slot::Numeral(6),
-        _ => Slot::Words(0),
+    if service == 4 {
+        return 0x08_17_16_15_13_12;
     }
+    0x09_18_17_15_13_12
 }
 
-fn slot20(i: usize) -> Slot
-    ensures { λ x. ⌜ x ≡ getD (slotsOf Kind.R20) i (Slot.Words 0) ⌝ }
-{
-    match i {
-        0 => Slot::Numeral(2),
-        1 => Slot::Numeral(5),
-        2 => Slot::Numeral(6),
-        3 => Slot::Numeral(7),
-        _ => Slot::Words(0),
-    }
-}
-
-fn slot30(i: usize) -> Slot
-    ensures { λ x. ⌜ x ≡ getD (slotsOf Kind.R30) i (Slot.Words 0) ⌝ }
-{
-    match i {
-        0 => Slot::Numeral(2),
-        1 => Slot::Numeral(3),
-        2 => Slot::Numeral(5),
-        3 => Slot::Numeral(6),
-        4 => Slot::Words(7),
-        5 => Slot::Numeral(8),
-        6 => Slot::Words(9),
-        _ => Slot::Words(0),
-    }
-}
-
-fn slot31(i: usize) -> Slot
-    ensures { λ x. ⌜ x ≡ getD (slotsOf Kind.R31) i (Slot.Words 0) ⌝ }
-{
-    match i {
-        0 => Slot::Numeral(2),
-        1 => Slot::Numeral(3),
-        2 => Slot::Numeral(5),
-        3 => Slot::Words(6),
-        4 => Slot::Words(7),
-        5 => Slot::Words(8),
-        _ => Slot::Words(0),
-    }
-}
-
-fn slot40(i: usize) -> Slot
-    ensures { λ x. ⌜ x ≡ getD (slotsOf Kind.R40) i (Slot.Words 0) ⌝ }
-{
-    match i {
-        0 => Slot::Numeral(2),
-        1 => Slot::Numeral(3),
-        2 => Slot::Numeral(5),
-        3 => Slot::Words(6),
-        4 => Slot::Words(7),
-        5 => Slot::Words(8),
-        6 => Slot::Words(9),
-        _ => Slot::Words(0),
-    }
-}
-
-fn slot49(i: usize) -> Slot
-    ensures { λ x. ⌜ x ≡ getD (slotsOf Kind.R49) i (Slot.Words 0) ⌝ }
-{
-    match i {
-        0 => Slot::Numeral(2),
-        1 => Slot::Numeral(3),
-        2 => Slot::Numeral(5),
-        3 => Slot::Numeral(7),
-        4 => Slot::Numeral(8),
-        5 => Slot::Words(9),
-        _ => Slot::Words(0),
-    }
-}
-
-fn slot50(i: usize) -> Slot
-    ensures { λ x. ⌜ x ≡ getD (slotsOf Kind.R50) i (Slot.Words 0) ⌝ }
-{
-    match i {
-        0 => Slot::Numeral(2),
-        1 => Slot::Numeral(3),
-        2 => Slot::Numeral(5),
-        3 => Slot::Words(6),
-        4 => Slot::Numeral(7),
-        _ => Slot::Words(0),
-    }
-}
-
-pub fn slot_at(kind: Kind, i: usize) -> Slot
-    ensures { λ x. ⌜ x ≡ getD (slotsOf kind) i (Slot.Words 0) ⌝ }
+// The values of each record type, a byte for each, the first lowest: its field, and 16 more for a number.
+fn slots_of(kind: Kind, service: u8) -> u64
+    ensures { λ x. ⌜ x ≡ packed (slotsOf kind service) ⌝ }
 {
     match kind {
-        Kind::R10 => slot10(i),
-        Kind::R20 => slot20(i),
-        Kind::R30 => slot30(i),
-        Kind::R31 => slot31(i),
-        Kind::R40 => slot40(i),
-        Kind::R49 => slot49(i),
-        Kind::R50 => slot50(i),
-        Kind::R88 => Slot::Words(0),
-        Kind::R89 => Slot::Words(0),
-        Kind::Other => Slot::Words(0),
+        Kind::R10 => 0x16_15,
+        Kind::R20 => 0x17_16_15_12,
+        Kind::R30 => 0x09_18_07_16_15_13_12,
+        Kind::R31 => 0x08_07_06_15_13_12,
+        Kind::R40 => 0x09_08_07_06_15_13_12,
+        Kind::R41 => 0x08_07_06_15_13_12,
+        Kind::R49 => message_slots(service),
+        Kind::R50 => 0x17_06_15_13_12,
+        Kind::R88 => 0,
+        Kind::R89 => 0,
+        Kind::Other => 0,
     }
+}
+
+// The value in place i behind the record type, counted from 0; behind the last a text of no field.
+pub fn slot_at(kind: Kind, service: u8, i: usize) -> Slot
+    ensures { λ x. ⌜ x ≡ getD (slotsOf kind service) i (Slot.Words 0) ⌝ }
+{
+    if 7 < i {
+        return Slot::Words(0);
+    }
+    let slot = (slots_of(kind, service) >> (8 * i)) % 256;
+    if slot < 16 {
+        return Slot::Words(slot as u8);
+    }
+    Slot::Numeral((slot - 16) as u8)
 }
 
 pub fn field_of(slot: Slot) -> u8
@@ -210,8 +162,8 @@ fn slot_found(slot: Slot, value: &[u8]) -> Finding
 }
 
 // Too few values, or too many: a semicolon stands before each value behind the record type.
-fn counted(kind: Kind, line: &[u8]) -> Finding
-    ensures { λ x. ⌜ x ≡ counted (slotsOf kind) (givenIn (now (line .entry))) ⌝ }
+fn counted(kind: Kind, service: u8, line: &[u8]) -> Finding
+    ensures { λ x. ⌜ x ≡ counted (slotsOf kind service) (givenIn (now (line .entry))) ⌝ }
 {
     let n = slots_in(kind);
     let mut at: usize = 0;
@@ -219,7 +171,7 @@ fn counted(kind: Kind, line: &[u8]) -> Finding
     while i < n {
         let end = find(line, at, 59);
         if end == line.len() {
-            return Finding::Fault(8, field_of(slot_at(kind, i)));
+            return Finding::Fault(8, field_of(slot_at(kind, service, i)));
         }
         at = end + 1;
         i += 1;
@@ -229,13 +181,13 @@ fn counted(kind: Kind, line: &[u8]) -> Finding
 }
 
 // The first number that is none.
-fn numerals(kind: Kind, line: &[u8]) -> Finding
-    ensures { λ x. ⌜ x ≡ numerals (slotsOf kind) (givenIn (now (line .entry))) ⌝ }
+fn numerals(kind: Kind, service: u8, line: &[u8]) -> Finding
+    ensures { λ x. ⌜ x ≡ numerals (slotsOf kind service) (givenIn (now (line .entry))) ⌝ }
 {
     let n = slots_in(kind);
     let mut i: usize = 0;
     while i < n {
-        let found = slot_found(slot_at(kind, i), value_at(line, i + 1));
+        let found = slot_found(slot_at(kind, service, i), value_at(line, i + 1));
         let Finding::Sound = found else {
             return found;
         };
@@ -247,7 +199,8 @@ fn numerals(kind: Kind, line: &[u8]) -> Finding
 fn slots_found(kind: Kind, line: &[u8]) -> Finding
     ensures { λ x. ⌜ x ≡ slotsFound kind (givenIn (now (line .entry))) ⌝ }
 {
-    counted(kind, line).or_else(numerals(kind, line))
+    let service = service_in(line);
+    counted(kind, service, line).or_else(numerals(kind, service, line))
 }
 
 // The record types that lines have.
@@ -260,6 +213,7 @@ fn is_given(kind: Kind) -> bool
         Kind::R30 => true,
         Kind::R31 => true,
         Kind::R40 => true,
+        Kind::R41 => true,
         Kind::R49 => true,
         Kind::R50 => true,
         Kind::R88 => false,

@@ -4,7 +4,7 @@ use Prim.Native.Nat.{ℕ, _≤_}
 use mathlib.Core.Path.{_≡_, refl, sym, ap, _∙_}
 use mathlib.Core.List.{List, [], _∷_, _++_}
 use mathlib.Core.Bool.{Bool, true, false}
-use lib.Dec.{leb}
+use lib.Dec.{leb, eqb}
 use lib.ListN.{length, drop}
 use borrow.Author.Tests.{le-leb, lt-leb}
 use Rattle.choice.specs.Choice.{if_then_else_}
@@ -15,11 +15,13 @@ use Rattle.layout.specs.Rows.{firstFault}
 use Rattle.layout.specs.declared.Finding.{Finding}
 use Rattle.layout.specs.declared.Finding.the-variants.{Sound, Fault}
 use Rattle.rules.specs.Alone.{ownTable}
+use Rattle.rules.specs.Fields.{messageOf}
 use Rattle.rules.specs.declared.Kind.{Kind}
-use Rattle.operations.specs.Making.{Put, recordFrom, tooLong, notMade, onSound, judged, makeOf, lentRecord, madeBytes}
+use Rattle.operations.specs.Making.{Put, fixed, notification, message, recordFrom, tooLong, notMade, onSound, judged, makeOf, lentRecord, madeBytes}
 use Rattle.operations.specs.Promises.{MakePromise}
 use Rattle.operations.specs.declared.Making.{Making}
 use Rattle.operations.specs.declared.Making.the-variants.{Made, NotMade}
+use Rattle.laws.specs.Makable.{AllFit}
 use Rattle.make_record.specs.Handed.{HandedOver}
 
 -- the answer settles the buffer
@@ -42,6 +44,15 @@ handed-promised k ps out r after {x = x} e s p own h =
     ∙ ap (λ (f : Finding). onSound f room) (own none [] ∙ ap (λ (b : List ℕ). firstFault none [] b (ownTable k b)) p)
     ∙ ap (λ (f : Finding). onSound f (judged k (recordFrom ps) (length out))) (sym s ∙ e))
     (h .leaves ∙ ap (λ (b : List ℕ). lentRecord x b out) p)
+
+-- the text of a message fits, whether or not a notification code stands before it
+pub words-fit : (service line column : ℕ) (words : List ℕ) → AllFit (notification service ++ message (messageOf service) line column words) → leb (length words) 40 ≡ true
+unfolding AllFit notification
+words-fit service line column words h = go (eqb service 4) h
+  where
+    go : (b : Bool) → AllFit ((if b then [] else (fixed "3" ∷ [])) ++ message (messageOf service) line column words) → leb (length words) 40 ≡ true
+    go true f = f .1 .1 .0
+    go false f = f .1 .1 .1 .0
 
 -- ---- handing over
 module _ (r out : List ℕ) where

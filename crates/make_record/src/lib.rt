@@ -1,9 +1,9 @@
-// Records from the till: seven operations that make a record from values into a lent buffer.
+// Records from the till: eight operations that make a record from values into a lent buffer.
 
 ghost use mathlib.Core.Path.{_≡_};
 ghost use lib.ListN.{length};
 ghost use Rattle.limits.specs.Limits.{recordBytes};
-ghost use Rattle.operations.specs.Making.{notMade, made10, made20, made30, made31, made40, made49, made50};
+ghost use Rattle.operations.specs.Making.{notMade, made10, made20, made30, made31, made40, made41, made49, made50};
 ghost use Rattle.operations.specs.Promises.{MakePromise};
 ghost use Rattle.make_record.specs.Handed.{HandedOver};
 use figures::amounts::Amount;
@@ -14,6 +14,7 @@ use make_values::long::long20;
 use make_values::long::long30;
 use make_values::long::long31;
 use make_values::long::long40;
+use make_values::long::long41;
 use make_values::long::long49;
 use make_values::long::long50;
 use make_values::put::put10;
@@ -21,6 +22,7 @@ use make_values::put::put20;
 use make_values::put::put30;
 use make_values::put::put31;
 use make_values::put::put40;
+use make_values::put::put41;
 use make_values::put::put49;
 use make_values::put::put50;
 use operations::Making;
@@ -140,7 +142,28 @@ pub fn make40(
     hand_over(make_rules::own40(&r), &r, out)
 }
 
-// Record 49, a line of the message.
+// Record 41, the second half of the payee's address.
+pub fn make41(
+    service: u64,
+    code: u64,
+    number: u64,
+    address1: &[u8],
+    address2: &[u8],
+    country: &[u8],
+    out: &mut [u8],
+) -> Making
+    ensures { λ x. ⌜ MakePromise Kind.R41 (made41 service code number (now (address1 .entry)) (now (address2 .entry)) (now (country .entry))) (now (out .entry)) x (now (out .exit)) ⌝ }
+{
+    let long = long41(service, code, number, address1, address2, country);
+    if let Finding::Fault(fault, field) = long {
+        return not_made(fault, field);
+    }
+    let mut r = [0u8; RECORD_BYTES];
+    put41(&mut r, service, code, number, address1, address2, country);
+    hand_over(make_rules::own41(&r), &r, out)
+}
+
+// Record 49, a line of the message, as its service has it.
 pub fn make49(
     service: u64,
     code: u64,

@@ -2,12 +2,12 @@
 -- Assumes nothing.
 use Prim.Native.Nat.{ℕ}
 use mathlib.Core.List.{List, [], _∷_, _++_}
-use Rattle.layout.specs.Rules.{digits, zeros, textual, fixed, listed}
+use Rattle.layout.specs.Rules.{digits, zeros, fixed, listed}
 use Rattle.layout.specs.Rows.{Row, at}
 use Rattle.rules.specs.Codes.{typeCode}
-use Rattle.rules.specs.Fields.{on, agreementField, assignmentField, transactionField, dateField, amountField, lineField, columnField, specifiedField}
+use Rattle.rules.specs.Fields.{on, agreementField, assignmentField, transactionField, dateField, amountField, specifiedField}
 use Rattle.rules.specs.Layouts.{aService, aType}
-use Rattle.rules.specs.Payments.{aDate, amountAllowed, line, column}
+use Rattle.rules.specs.Payments.{aDate, amountAllowed}
 
 -- fields 1 and 2 of 30 to 50
 abbrev pub serviced : List Row
@@ -17,7 +17,7 @@ serviced = at 1 1 2 (fixed "NY") ∷ aService ∷ []
 abbrev pub numbered : List Row
 numbered = on transactionField digits ∷ []
 
--- fields 1 to 5 of 30, 31, 40 and 49
+-- fields 1 to 5 of 30, 31, 40, 41 and 49
 abbrev pub headed : List ℕ → List Row
 headed r = serviced ++ (aType r ∷ []) ++ numbered
 
@@ -35,10 +35,6 @@ dated = on dateField digits ∷ on dateField aDate ∷ []
 
 abbrev pub priced : List ℕ → List Row
 priced r = on amountField digits ∷ on amountField (amountAllowed (typeCode r)) ∷ []
-
--- fields 6 to 10 of 49
-abbrev pub message : List Row
-message = at 6 16 16 (fixed "3") ∷ on lineField line ∷ on columnField column ∷ at 9 21 60 textual ∷ at 10 61 80 zeros ∷ []
 
 -- fields 7 and 8 of 50
 abbrev pub specified : List Row

@@ -15,14 +15,13 @@ ghost use Rattle.rules.specs.Alone.{ownTable};
 ghost use Rattle.rules.specs.Codes.{serviceCode, typeCode};
 ghost use Rattle.rules.specs.Layouts.{party30, tail30, texts31};
 ghost use Rattle.rules.specs.Payments.{kidForm};
-ghost use Rattle.make_rules.specs.Pieces.{serviced, numbered, headed, keyed, dated, priced, message, specified};
+ghost use Rattle.make_rules.specs.Pieces.{serviced, numbered, headed, keyed, dated, priced, specified};
 use dates::Day;
 use field_bytes::classes::Class;
 use field_digits::DigitPairs;
 use field_digits::Digits;
 use figures::totals::Totals;
 use layout::Finding;
-use record_49::Bounded;
 use rules::Kind;
 
 // Fields 1 and 2: NY, and one of the two services.
@@ -36,7 +35,7 @@ fn service(r: &[u8]) -> Finding
         .demand(one, 7, 2)
 }
 
-// Fields 1 to 5 of 30, 31, 40 and 49: a service, a type of that service, a transaction number.
+// Fields 1 to 5 of 30, 31, 40, 41 and 49: a service, a type of that service, a transaction number.
 fn heading(r: &[u8]) -> Finding
     requires { ⌜ length (now r) ≡ recordBytes ⌝ }
     ensures { λ x. ⌜ ((f : Totals) (ks : List ℕ) → x ≡ firstFault f ks (now (r .entry)) (headed (now (r .entry)))) ⌝ }
@@ -171,25 +170,6 @@ fn texts(r: &[u8]) -> Finding
     record_31_40::texts(r)
 }
 
-// Fields 6 to 10 of a 49. A line or column that is no such number gives 7, never 8.
-fn message(r: &[u8]) -> Finding
-    requires { ⌜ length (now r) ≡ recordBytes ⌝ }
-    ensures { λ x. ⌜ ((f : Totals) (ks : List ℕ) → x ≡ firstFault f ks (now (r .entry)) message) ⌝ }
-{
-    if !fields::same_at(r, 16, 16, b"3") {
-        return Finding::Fault(7, 6);
-    }
-    let Bounded::InBounds(_line) = record_49::line_in(r) else {
-        return Finding::Fault(7, 7);
-    };
-    let Bounded::InBounds(_column) = record_49::column_in(r) else {
-        return Finding::Fault(7, 8);
-    };
-    Finding::Sound
-        .demand(fields::all_at(Class::Text, r, 21, 60), 8, 9)
-        .demand(fields::zeros_from(r, 61), 7, 10)
-}
-
 // Fields 7 and 8 of a 50.
 fn specifying(r: &[u8]) -> Finding
     requires { ⌜ length (now r) ≡ recordBytes ⌝ }
@@ -244,11 +224,23 @@ pub fn own40(r: &[u8]) -> Finding
     heading(r).or_else(record_31_40::address(r))
 }
 
+pub fn own41(r: &[u8]) -> Finding
+    requires { ⌜ length (now r) ≡ recordBytes ⌝ }
+    ensures { λ x. ⌜ ((f : Totals) (ks : List ℕ) → x ≡ firstFault f ks (now (r .entry)) (ownTable Kind.R41 (now (r .entry)))) ⌝ }
+{
+    let head = heading(r);
+    let own = record_41::second_address(r);
+    head.or_else(own)
+}
+
+// By itself a 49 finds every place free.
 pub fn own49(r: &[u8]) -> Finding
     requires { ⌜ length (now r) ≡ recordBytes ⌝ }
     ensures { λ x. ⌜ ((f : Totals) (ks : List ℕ) → x ≡ firstFault f ks (now (r .entry)) (ownTable Kind.R49 (now (r .entry)))) ⌝ }
 {
-    heading(r).or_else(message(r))
+    let placed = record_49::own_fields(r, 0);
+    let finding = placed.finding;
+    heading(r).or_else(finding)
 }
 
 pub fn own50(r: &[u8]) -> Finding

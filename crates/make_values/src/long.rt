@@ -1,7 +1,9 @@
 // Refusal 22: a value that is too long for its field, looked for over all values of a record, in the order of the fields.
 
 ghost use mathlib.Core.Path.{_≡_};
-ghost use Rattle.operations.specs.Making.{tooLong, head, made10, made20, made30, made31, made40, made49, made50};
+ghost use Prim.Native.Nat.{_≤_};
+ghost use Rattle.rules.specs.Fields.{messageOf};
+ghost use Rattle.operations.specs.Making.{tooLong, head, made10, made20, made30, made31, made40, made41, made49, made50};
 ghost use Rattle.make_values.specs.Opening.{openingLong};
 use figures::amounts::Amount;
 use layout::Finding;
@@ -86,13 +88,40 @@ pub fn long40(
         .demand(area.len() <= 25, 22, 9)
 }
 
+pub fn long41(
+    service: u64,
+    code: u64,
+    number: u64,
+    address1: &[u8],
+    address2: &[u8],
+    country: &[u8],
+) -> Finding
+    ensures { λ x. ⌜ x ≡ tooLong (made41 service code number (now (address1 .entry)) (now (address2 .entry)) (now (country .entry))) ⌝ }
+{
+    head_long(service, code, number)
+        .demand(address1.len() <= 30, 22, 6)
+        .demand(address2.len() <= 30, 22, 7)
+        .demand(country.len() <= 3, 22, 8)
+}
+
+// The field of a message's line, which column and text follow: service 04 has no notification code before it.
+fn line_field(service: u64) -> u8
+    ensures { λ k. ⌜ (k ≡ messageOf service .line .number) × (k ≤ 7) ⌝ }
+{
+    if service == 4 {
+        return 6;
+    }
+    7
+}
+
 pub fn long49(service: u64, code: u64, number: u64, line: u64, column: u64, text: &[u8]) -> Finding
     ensures { λ x. ⌜ x ≡ tooLong (made49 service code number line column (now (text .entry))) ⌝ }
 {
+    let field = line_field(service);
     head_long(service, code, number)
-        .demand(line < 1000, 22, 7)
-        .demand(column < 10, 22, 8)
-        .demand(text.len() <= 40, 22, 9)
+        .demand(line < 1000, 22, field)
+        .demand(column < 10, 22, field + 1)
+        .demand(text.len() <= 40, 22, field + 2)
 }
 
 pub fn long50(service: u64, code: u64, number: u64, kid: &[u8], amount: Amount) -> Finding

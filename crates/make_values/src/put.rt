@@ -3,10 +3,10 @@
 ghost use mathlib.Core.Path.{_≡_};
 ghost use mathlib.Core.List.{_++_};
 ghost use Prim.Native.Nat.{_≤_};
-ghost use lib.ListN.{length, drop};
+ghost use lib.ListN.{length, take, drop};
 ghost use Rattle.limits.specs.Limits.{recordBytes};
-ghost use Rattle.operations.specs.Making.{recordFrom, made10, made20, made30, made31, made40, made49, made50};
-ghost use Rattle.make_values.specs.Opening.{openingBytes};
+ghost use Rattle.operations.specs.Making.{recordFrom, made10, made20, made30, made31, made40, made41, made49, made50};
+ghost use Rattle.make_values.specs.Opening.{openingBytes, messageBytes};
 use figures::amounts::Amount;
 use write_fields::put_byte;
 use write_fields::put_digits;
@@ -111,6 +111,39 @@ pub fn put40(
     put_byte(r, 80, 10);
 }
 
+pub fn put41(
+    r: &mut [u8],
+    service: u64,
+    code: u64,
+    number: u64,
+    address1: &[u8],
+    address2: &[u8],
+    country: &[u8],
+)
+    requires { ⌜ (length (now r) ≡ recordBytes) × (length (now address1) ≤ 30) × (length (now address2) ≤ 30) × (length (now country) ≤ 3) ⌝ }
+    ensures { λ _. ⌜ now (r .exit) ≡ recordFrom (made41 service code number (now (address1 .entry)) (now (address2 .entry)) (now (country .entry))) ⌝ }
+{
+    put_opening(r, service, code, 41, number);
+    put_left_at(r, 15, 30, address1);
+    put_left_at(r, 45, 30, address2);
+    put_left_at(r, 75, 3, country);
+    put_digits(r, 78, 2, 0);
+    put_byte(r, 80, 10);
+}
+
+// A message from its line on, after the first `at` bytes, and the end of its record.
+fn put_message(r: &mut [u8], at: usize, line: u64, column: u64, text: &[u8])
+    requires { ⌜ (length (now r) ≡ recordBytes) × (at ≤ 36) × (length (now text) ≤ 40) ⌝ }
+    ensures { λ _. ⌜ now (r .exit) ≡ take at (now (r .entry)) ++ messageBytes at line column (now (text .entry)) ⌝ }
+{
+    put_digits(r, at, 3, line);
+    put_digits(r, at + 3, 1, column);
+    put_left_at(r, at + 4, 40, text);
+    put_digits(r, at + 44, 36 - at, 0);
+    put_byte(r, 80, 10);
+}
+
+// In service 04 the message stands where another service has the notification code.
 pub fn put49(
     r: &mut [u8],
     service: u64,
@@ -124,12 +157,12 @@ pub fn put49(
     ensures { λ _. ⌜ now (r .exit) ≡ recordFrom (made49 service code number line column (now (text .entry))) ⌝ }
 {
     put_opening(r, service, code, 49, number);
+    if service == 4 {
+        put_message(r, 15, line, column, text);
+        return;
+    }
     put_byte(r, 15, 51);
-    put_digits(r, 16, 3, line);
-    put_digits(r, 19, 1, column);
-    put_left_at(r, 20, 40, text);
-    put_digits(r, 60, 20, 0);
-    put_byte(r, 80, 10);
+    put_message(r, 16, line, column, text);
 }
 
 pub fn put50(r: &mut [u8], service: u64, code: u64, number: u64, kid: &[u8], amount: Amount)

@@ -1,10 +1,10 @@
--- Document 02, No. 1: a record made from values. Numbers stand right with zeros, texts left with blanks, KIDs and field 7 of a 30 to the right.
+-- Document 02, No. 1, and No. 2 for 41 and 49: a record made from values. Numbers stand right with zeros, texts left with blanks, KIDs and field 7 of a 30 to the right.
 -- Assumes nothing.
-use Prim.Native.Nat.{ℕ, _^_}
+use Prim.Native.Nat.{ℕ, _+_, _-_, _^_}
 use Prim.Native.String.{String}
 use mathlib.Core.List.{List, [], _∷_, _++_}
 use mathlib.Core.Bool.{Bool, true}
-use lib.Dec.{leb, ltb}
+use lib.Dec.{leb, ltb, eqb}
 use lib.ListN.{length, drop}
 use Rattle.choice.specs.Choice.{if_then_else_}
 use Rattle.limits.specs.Limits.{recordBytes}
@@ -17,9 +17,10 @@ use Rattle.layout.specs.declared.Finding.{Finding}
 use Rattle.layout.specs.declared.Finding.the-variants.{Sound, Fault}
 use Rattle.rules.specs.Alone.{ownTable}
 use Rattle.rules.specs.Codes.{numberOfKind}
+use Rattle.rules.specs.Fields.{Message, messageOf}
 use Rattle.rules.specs.Refusals.{refusal}
 use Rattle.rules.specs.declared.Kind.{Kind}
-use Rattle.rules.specs.declared.Kind.the-variants.{R10, R20, R30, R31, R40, R49, R50}
+use Rattle.rules.specs.declared.Kind.the-variants.{R10, R20, R30, R31, R40, R41, R49, R50}
 use Rattle.operations.specs.declared.Making.{Making}
 use Rattle.operations.specs.declared.Making.the-variants.{Made, NotMade}
 
@@ -70,9 +71,25 @@ abbrev pub made40 : ℕ → ℕ → ℕ → List ℕ → List ℕ → List ℕ �
 made40 service type n name postal filler area =
     head R40 service type ++ (number 5 7 n ∷ left 6 30 name ∷ left 7 4 postal ∷ left 8 3 filler ∷ left 9 25 area ∷ zeros 3 ∷ [])
 
+abbrev pub made41 : ℕ → ℕ → ℕ → List ℕ → List ℕ → List ℕ → List Put
+made41 service type n address1 address2 country =
+    head R41 service type ++ (number 5 7 n ∷ left 6 30 address1 ∷ left 7 30 address2 ∷ left 8 3 country ∷ zeros 2 ∷ [])
+
+-- the notification code of a 49, which service 04 does not have
+abbrev pub codeBy : Bool → List Put
+codeBy remittance = if remittance then [] else (fixed "3" ∷ [])
+
+unfoldable pub notification : ℕ → List Put
+notification service = codeBy (eqb service 4)
+
+-- a message from its line on, with the fields that its service has
+abbrev pub message : Message → ℕ → ℕ → List ℕ → List Put
+message m line column words =
+    number (m .line .number) 3 line ∷ number (m .column .number) 1 column ∷ left (m .text .number) 40 words ∷ zeros (m .filler .to + 1 - m .filler .from) ∷ []
+
 abbrev pub made49 : ℕ → ℕ → ℕ → ℕ → ℕ → List ℕ → List Put
 made49 service type n line column words =
-    head R49 service type ++ (number 5 7 n ∷ fixed "3" ∷ number 7 3 line ∷ number 8 1 column ∷ left 9 40 words ∷ zeros 20 ∷ [])
+    head R49 service type ++ (number 5 7 n ∷ []) ++ notification service ++ message (messageOf service) line column words
 
 abbrev pub made50 : ℕ → ℕ → ℕ → List ℕ → ℕ → List Put
 made50 service type n kid amount = head R50 service type ++ (number 5 7 n ∷ right 6 25 kid ∷ number 7 17 amount ∷ zeros 23 ∷ [])

@@ -1,6 +1,6 @@
 // Records from the till for programs in C or Rust. A type of field 3 is `code` here, since `type` is a word of the language.
 
-ghost use Rattle.operations.specs.Making.{made10, made20, made30, made31, made40, made49, made50};
+ghost use Rattle.operations.specs.Making.{made10, made20, made30, made31, made40, made41, made49, made50};
 ghost use Rattle.operations.specs.Promises.{MakeNumbers};
 use super::tell_made;
 use figures::amounts::Amount;
@@ -85,6 +85,25 @@ pub extern "C" fn pay_make40(
 {
     tell_made(
         make_record::make40(service, code, number, name, postal, filler, area, out),
+        answer,
+    );
+}
+
+#[no_mangle]
+pub extern "C" fn pay_make41(
+    service: u64,
+    code: u64,
+    number: u64,
+    address1: &[u8],
+    address2: &[u8],
+    country: &[u8],
+    out: &mut [u8],
+    answer: &mut [u64; 16],
+)
+    ensures { λ _. ⌜ MakeNumbers Kind.R41 (made41 service code number (now (address1 .entry)) (now (address2 .entry)) (now (country .entry))) (now (out .entry)) (now (answer .exit)) (now (out .exit)) ⌝ }
+{
+    tell_made(
+        make_record::make41(service, code, number, address1, address2, country, out),
         answer,
     );
 }

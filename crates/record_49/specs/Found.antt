@@ -1,21 +1,26 @@
--- What the check of 49 answers: the first fault of the table, and where there is none, the places taken after the record.
+-- What the check of 49 answers of a piece of its table: the first fault, and where there is none, the places taken after the record.
 -- Assumes nothing.
-use Prim.Native.Nat.{ℕ}
+use Prim.Native.Nat.{ℕ, _+_}
 use mathlib.Core.Path.{_≡_}
 use mathlib.Core.List.{List}
 use Rattle.figures.specs.declared.totals.Totals.{Totals}
-use Rattle.layout.specs.Rows.{firstFault}
+use Rattle.layout.specs.Rows.{Row, firstFault}
 use Rattle.layout.specs.declared.Finding.the-variants.{Sound}
-use Rattle.rules.specs.Layouts.{place49, record49}
-use Rattle.rules.specs.Messages.{placeIn, withPlace}
-use Rattle.rules.specs.declared.Assignment.{Assignment}
+use Rattle.rules.specs.Fields.{field, Message}
+use Rattle.rules.specs.Messages.{withPlace}
 use Rattle.record_49.specs.declared.Placed.{Placed}
 
-pub record PlacedBy (a : Assignment) (r : List ℕ) (x : Placed) : Type 0 where
-  pub finding : (f : Totals) (ks : List ℕ) → x .finding ≡ firstFault f ks r (record49 a r)
-  pub places : x .finding ≡ Sound → x .places ≡ withPlace (a .places) (placeIn r)
+-- of these rows, with the places taken before and the record's own place
+pub record PlacedBy (ws : List Row) (before place : ℕ) (r : List ℕ) (x : Placed) : Type 0 where
+  pub finding : (f : Totals) (ks : List ℕ) → x .finding ≡ firstFault f ks r ws
+  pub places : x .finding ≡ Sound → x .places ≡ withPlace before place
 
--- the same of the piece with the place
-pub record PlaceBy (a : Assignment) (r : List ℕ) (x : Placed) : Type 0 where
-  pub finding : (f : Totals) (ks : List ℕ) → x .finding ≡ firstFault f ks r (place49 a r)
-  pub places : x .finding ≡ Sound → x .places ≡ withPlace (a .places) (placeIn r)
+-- a message whose line is field k and stands at position p: in service 01 field 7 at 17, in service 04 field 6 at 16
+abbrev pub messageFrom : ℕ → ℕ → Message
+messageFrom k p =
+    record {
+      line = field k p (p + 2);
+      column = field (k + 1) (p + 3) (p + 3);
+      text = field (k + 2) (p + 4) (p + 43);
+      filler = field (k + 3) (p + 44) 80;
+    }

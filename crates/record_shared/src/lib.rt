@@ -88,7 +88,7 @@ pub fn repeats(r: &[u8], service: Service, code: u8, number: TransactionNumber) 
     here & numbered(n).equals(number)
 }
 
-// Fields 1 to 5 of 31, 40 and 49, which repeat their record 30.
+// Fields 1 to 5 of 31, 40, 41 and 49, which repeat their record 30.
 pub fn repeating(r: &[u8], service: Service, code: u8, number: TransactionNumber) -> Finding
     requires { ⌜ length (now r) ≡ recordBytes ⌝ }
     ensures { λ x. ⌜ ((a : Assignment) → a .service ≡ service → a .code ≡ code → a .number ≡ number → (f : Totals) (ks : List ℕ) → x ≡ firstFault f ks (now (r .entry)) (repeats a (now (r .entry)))) ⌝ }

@@ -1,7 +1,10 @@
--- Document 01, "Layouts": the fields that are read as numbers. Number, first and last position of such a field stand here and nowhere else.
+-- Document 01, "Layouts", and document 02, No. 2: the fields that are read as numbers, and those of a message. The rules take number, first and last position of such a field from here.
 -- Assumes nothing.
 use Prim.Native.Nat.{ℕ}
 use mathlib.Core.List.{List}
+use mathlib.Core.Bool.{Bool}
+use lib.Dec.{eqb}
+use Rattle.choice.specs.Choice.{if_then_else_}
 use Rattle.fields.specs.Bytes.{part}
 use Rattle.fields.specs.Numbers.{value}
 use Rattle.layout.specs.Rules.{Rule}
@@ -36,7 +39,7 @@ agreementField = field 5 9 17
 abbrev pub assignmentField : Field
 assignmentField = field 6 18 24
 
--- records 30, 31, 40, 49 and 50: the transaction's number
+-- records 30, 31, 40, 41, 49 and 50: the transaction's number
 abbrev pub transactionField : Field
 transactionField = field 5 9 15
 
@@ -47,12 +50,26 @@ dateField = field 6 16 21
 abbrev pub amountField : Field
 amountField = field 8 33 49
 
--- record 49
-abbrev pub lineField : Field
-lineField = field 7 17 19
+-- record 49: line, column, text and filler of a message
+pub record Message : Type 0 where
+  pub line : Field
+  pub column : Field
+  pub text : Field
+  pub filler : Field
 
-abbrev pub columnField : Field
-columnField = field 8 20 20
+-- in service 01 they stand behind the notification code, which service 04 does not have
+abbrev pub message01 : Message
+message01 = record { line = field 7 17 19; column = field 8 20 20; text = field 9 21 60; filler = field 10 61 80 }
+
+abbrev pub message04 : Message
+message04 = record { line = field 6 16 18; column = field 7 19 19; text = field 8 20 59; filler = field 9 60 80 }
+
+-- by whether the service is 04; by the service's code
+abbrev pub messageBy : Bool → Message
+messageBy remittance = if remittance then message04 else message01
+
+unfoldable pub messageOf : ℕ → Message
+messageOf s = messageBy (eqb s 4)
 
 -- record 50
 abbrev pub specifiedField : Field

@@ -22,7 +22,7 @@ use Rattle.rules.specs.Messages.{placeIn, withPlace}
 use Rattle.rules.specs.Payments.{dateIn, amountIn}
 use Rattle.rules.specs.Layouts.{amount50}
 use Rattle.rules.specs.declared.Kind.{Kind}
-use Rattle.rules.specs.declared.Kind.the-variants.{R10, R20, R30, R31, R40, R49, R50, R88, R89, Other}
+use Rattle.rules.specs.declared.Kind.the-variants.{R10, R20, R30, R31, R40, R41, R49, R50, R88, R89, Other}
 use Rattle.rules.specs.declared.Assignment.{Assignment}
 use Rattle.rules.specs.declared.State.{State}
 
@@ -76,6 +76,7 @@ turnFor R20 r a = opened (serviceFor (serviceCode r))
 turnFor R30 r a = paid r a
 turnFor R31 r a = passed R31 (a .group) (a .places) a
 turnFor R40 r a = passed R40 (a .group) (a .places) a
+turnFor R41 r a = passed R41 (a .group) (a .places) a
 turnFor R49 r a = passed R49 (a .group) (withPlace (a .places) (placeIn r)) a
 turnFor R50 r a = passed R50 (grouped r (a .group)) (a .places) a
 turnFor R88 r a = passed R88 (a .group) (a .places) a

@@ -1,8 +1,8 @@
--- Document 01, "Layouts" and "Refusal numbers": a table for each record type, a row for each refusal, in the stated order.
+-- Document 01, "Layouts" and "Refusal numbers", and document 02, No. 2, for 41 and 49: a table for each record type, a row for each refusal, in the stated order.
 -- Assumes nothing.
 use Prim.Native.Nat.{ℕ, _+_}
 use mathlib.Core.List.{List, [], _∷_, _++_}
-use mathlib.Core.Bool.{not}
+use mathlib.Core.Bool.{Bool, not}
 use lib.Dec.{eqb}
 use Rattle.choice.specs.Choice.{if_then_else_}
 use Rattle.fields.specs.Bytes.{same}
@@ -16,12 +16,12 @@ use Rattle.layout.specs.Rules.{Rule, rule, digits, zeros, textual, fixed, liste
 use Rattle.layout.specs.Rows.{Row, at, must, file, takes, fresh, room, figure, Figure, transactions, records, sum, firstDate}
 use Rattle.services.specs.Services.{codeFor}
 use Rattle.rules.specs.Codes.{serviceCode, typeCode, kindOf, keyIn}
-use Rattle.rules.specs.Fields.{Field, on, numberIn, senderField, agreementField, assignmentField, transactionField, dateField, amountField, lineField, columnField, specifiedField, transactionsField, recordsField, sumField, firstDateField, lastDateField}
+use Rattle.rules.specs.Fields.{Field, on, numberIn, senderField, agreementField, assignmentField, transactionField, dateField, amountField, Message, messageOf, specifiedField, transactionsField, recordsField, sumField, firstDateField, lastDateField}
 use Rattle.rules.specs.Order.{mayFollow}
-use Rattle.rules.specs.Messages.{placeIn, taken}
-use Rattle.rules.specs.Payments.{typeListed, aDate, dateIn, amountIn, party, partyAccount, amountAllowed, limitFor, kidOf, kidFor, name, postal, filler, line, column}
+use Rattle.rules.specs.Messages.{placeAt, taken}
+use Rattle.rules.specs.Payments.{typeListed, aDate, dateIn, amountIn, party, partyAccount, amountAllowed, limitFor, kidOf, kidFor, name, postal, filler, country, line, column}
 use Rattle.rules.specs.declared.Kind.{Kind}
-use Rattle.rules.specs.declared.Kind.the-variants.{R10, R20, R30, R31, R40, R49, R50, R88, R89, Other}
+use Rattle.rules.specs.declared.Kind.the-variants.{R10, R20, R30, R31, R40, R41, R49, R50, R88, R89, Other}
 use Rattle.rules.specs.declared.Mode.{Mode}
 use Rattle.rules.specs.declared.Assignment.{Assignment}
 
@@ -55,7 +55,7 @@ sameNumber a r =
     must (eqb (numberIn transactionField r) (a .number .0)) 12 5 ∷
     []
 
--- fields 1 to 5 of 31, 40 and 49
+-- fields 1 to 5 of 31, 40, 41 and 49
 abbrev pub repeats : Assignment → List ℕ → List Row
 repeats a r = belongs a r ++ (must (eqb (typeCode r) (a .code)) 12 3 ∷ sameNumber a r)
 
@@ -178,20 +178,50 @@ address40 t =
 abbrev pub record40 : Assignment → List ℕ → List Row
 record40 a r = repeats a r ++ address40 (typeCode r)
 
--- fields 7 and 8 of 49: the place is judged when field 8 is sound, before field 9
-abbrev pub place49 : Assignment → List ℕ → List Row
-place49 a r =
-    on lineField line ∷
-    on columnField column ∷
-    must (not (taken (a .places) (placeIn r))) 17 7 ∷
+-- fields 6 to 9 of 41, by the transaction's type
+abbrev pub address41 : ℕ → List Row
+address41 t =
+    at 6 16 45 textual ∷
+    at 7 46 75 textual ∷
+    at 8 76 78 (country t) ∷
+    at 9 79 80 zeros ∷
     []
 
-abbrev pub record49 : Assignment → List ℕ → List Row
-record49 a r =
-    repeats a r ++ (at 6 16 16 (fixed "3") ∷ []) ++ place49 a r ++
-    (at 9 21 60 textual ∷
-    at 10 61 80 zeros ∷
+abbrev pub record41 : Assignment → List ℕ → List Row
+record41 a r = repeats a r ++ address41 (typeCode r)
+
+-- the notification code of 49, which service 04 does not have
+abbrev pub aNotification : Row
+aNotification = at 6 16 16 (fixed "3")
+
+abbrev pub notificationBy : Bool → List Row
+notificationBy remittance = if remittance then [] else (aNotification ∷ [])
+
+unfoldable pub notification49 : ℕ → List Row
+notification49 s = notificationBy (eqb s 4)
+
+-- line and column of 49: the place is judged when the column is sound, before the text
+abbrev pub place49 : Message → ℕ → List ℕ → List Row
+place49 m places r =
+    on (m .line) line ∷
+    on (m .column) column ∷
+    must (not (taken places (placeAt m r))) 17 7 ∷
+    []
+
+-- a message from its line on, wherever its service has it
+abbrev pub message49 : Message → ℕ → List ℕ → List Row
+message49 m places r =
+    place49 m places r ++
+    (on (m .text) textual ∷
+    on (m .filler) zeros ∷
     [])
+
+-- what a 49 of its service has behind its number
+abbrev pub fields49 : ℕ → List ℕ → List Row
+fields49 places r = notification49 (serviceCode r) ++ message49 (messageOf (serviceCode r)) places r
+
+abbrev pub record49 : Assignment → List ℕ → List Row
+record49 a r = repeats a r ++ fields49 (a .places) r
 
 -- fields 1 to 5 of 50
 abbrev pub head50 : Assignment → List ℕ → List Row
@@ -260,6 +290,7 @@ tableFor R20 w a r = record20 a r
 tableFor R30 w a r = record30 w a r
 tableFor R31 w a r = record31 a r
 tableFor R40 w a r = record40 a r
+tableFor R41 w a r = record41 a r
 tableFor R49 w a r = record49 a r
 tableFor R50 w a r = record50 a r
 tableFor R88 w a r = record88 a r

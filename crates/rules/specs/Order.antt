@@ -1,4 +1,4 @@
--- Document 01, "What may follow", and "Closing, joining, parting" for drafts.
+-- Document 01, "What may follow", and "Closing, joining, parting" for drafts; document 02, No. 2, for what follows 40, 41 and 49.
 -- Assumes nothing.
 use Prim.Native.Nat.{ℕ}
 use mathlib.Core.List.{List, [], _∷_}
@@ -10,7 +10,7 @@ use Rattle.services.specs.declared.Service.{Service}
 use Rattle.services.specs.declared.Service.the-variants.{Autogiro, Remittance}
 use Rattle.rules.specs.Codes.{numberOfKind}
 use Rattle.rules.specs.declared.Kind.{Kind}
-use Rattle.rules.specs.declared.Kind.the-variants.{R10, R20, R30, R31, R40, R49, R50, R88, R89, Other}
+use Rattle.rules.specs.declared.Kind.the-variants.{R10, R20, R30, R31, R40, R41, R49, R50, R88, R89, Other}
 use Rattle.rules.specs.declared.Mode.{Mode}
 use Rattle.rules.specs.declared.Mode.the-variants.{File, Draft}
 use Rattle.rules.specs.declared.Assignment.{Assignment}
@@ -34,7 +34,8 @@ behind m R20 s t = 30 ∷ []
 behind m R30 s t = 31 ∷ []
 behind m R31 s t = behind31 m s t
 behind m R50 s t = 50 ∷ next m
-behind m R40 s t = next m
+behind m R40 s t = 41 ∷ 49 ∷ next m
+behind m R41 s t = 49 ∷ next m
 behind m R49 s t = 49 ∷ next m
 behind m R88 s t = 20 ∷ 89 ∷ []
 behind m R89 s t = []

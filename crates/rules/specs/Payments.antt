@@ -1,4 +1,4 @@
--- Document 01, "Layouts", the text under the table: what service and transaction type ask of fields 3, 7, 8 and 9 of a record 30, and of a record 40.
+-- Document 01, "Layouts", the text under the table: what service and transaction type ask of fields 3, 7, 8 and 9 of a record 30, and of a record 40; document 02, No. 2, of a record 41.
 -- Assumes nothing.
 use Prim.Native.Nat.{ℕ}
 use mathlib.Core.List.{List, [], _∷_}
@@ -115,6 +115,13 @@ postal t = rule (postalForm t) 8
 
 abbrev pub filler : ℕ → Rule
 filler t = rule (fillerForm t) 8
+
+-- record 41: Text; for type 04 blank, since a money order stays in the country
+unfoldable pub countryForm : ℕ → List ℕ → Bool
+countryForm t f = if eqb t 4 then every isBlank f else every isText f
+
+abbrev pub country : ℕ → Rule
+country t = rule (countryForm t) 8
 
 -- record 49: line 001 to 021, column 1 or 2
 unfoldable pub isLine : List ℕ → Bool

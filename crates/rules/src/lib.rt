@@ -14,13 +14,14 @@ use figures::totals::Totals;
 use limits::RECORD_BYTES;
 use services::Service;
 
-// Record types. Other is none of the nine; it also stands for no record yet.
+// Record types. Other is none of the ten; it also stands for no record yet.
 pub enum Kind {
     R10,
     R20,
     R30,
     R31,
     R40,
+    R41,
     R49,
     R50,
     R88,

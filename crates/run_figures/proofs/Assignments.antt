@@ -37,7 +37,7 @@ use Rattle.rules.specs.Order.{mayFollow}
 use Rattle.rules.specs.Payments.{theDate, dateIn}
 use Rattle.rules.specs.declared.Assignment.{Assignment}
 use Rattle.rules.specs.declared.Kind.{Kind}
-use Rattle.rules.specs.declared.Kind.the-variants.{R10, R20, R30, R31, R40, R49, R50, R88, R89, Other}
+use Rattle.rules.specs.declared.Kind.the-variants.{R10, R20, R30, R31, R40, R41, R49, R50, R88, R89, Other}
 use Rattle.rules.specs.declared.Mode.{Mode}
 use Rattle.rules.specs.declared.Mode.the-variants.{File, Draft}
 use Rattle.run_figures.specs.Blocks.{doneFor, done, blocks, figuresFrom}
@@ -85,6 +85,7 @@ turn-dated R30 r a d =
     record { first = earlier-fits (a .totals .totals .first) (dateIn r) (d .first) (date-fits r); last = later-fits (a .totals .last) (dateIn r) (d .last) (date-fits r) }
 turn-dated R31 r a d = passed-dated (a .totals) d
 turn-dated R40 r a d = passed-dated (a .totals) d
+turn-dated R41 r a d = passed-dated (a .totals) d
 turn-dated R49 r a d = passed-dated (a .totals) d
 turn-dated R50 r a d = passed-dated (a .totals) d
 turn-dated R88 r a d = passed-dated (a .totals) d
@@ -142,6 +143,7 @@ one-turned R20 r a n e = refl
 one-turned R30 r a n e = omega (arith, e)
 one-turned R31 r a n e = omega (arith, e)
 one-turned R40 r a n e = omega (arith, e)
+one-turned R41 r a n e = omega (arith, e)
 one-turned R49 r a n e = omega (arith, e)
 one-turned R50 r a n e = omega (arith, e)
 one-turned R88 r a n e = omega (arith, e)
@@ -154,6 +156,7 @@ counted-next R20 r t ts x e = omega (arith, e)
 counted-next R30 r t ts x e = omega (arith, e)
 counted-next R31 r t ts x e = omega (arith, e)
 counted-next R40 r t ts x e = omega (arith, e)
+counted-next R41 r t ts x e = omega (arith, e)
 counted-next R49 r t ts x e = omega (arith, e)
 counted-next R50 r t ts x e = omega (arith, e)
 counted-next R88 r t ts x e = omega (arith, e)
@@ -168,6 +171,7 @@ total-next R20 r a n o ts x e = ap (λ (y : Totals). a .totals .totals ⊕ y) e
 total-next R30 r a n o ts x e = e ∙ ⊕-assoc (a .totals .totals) (gainFor R30 r) x
 total-next R31 r a n o ts x e = e ∙ ⊕-assoc (a .totals .totals) oneRecord x
 total-next R40 r a n o ts x e = e ∙ ⊕-assoc (a .totals .totals) oneRecord x
+total-next R41 r a n o ts x e = e ∙ ⊕-assoc (a .totals .totals) oneRecord x
 total-next R49 r a n o ts x e = e ∙ ⊕-assoc (a .totals .totals) oneRecord x
 total-next R50 r a n o ts x e = e ∙ ⊕-assoc (a .totals .totals) oneRecord x
 total-next R88 r a n o ts x e = e ∙ ⊕-assoc (a .totals .totals) oneRecord x
@@ -190,6 +194,7 @@ done-one R20 t ts o h = (o, h)
 done-one R30 t ts o h = h
 done-one R31 t ts o h = h
 done-one R40 t ts o h = h
+done-one R41 t ts o h = h
 done-one R49 t ts o h = h
 done-one R50 t ts o h = h
 done-one R88 t ts o h = h

@@ -8,7 +8,7 @@ use Rattle.rules.specs.Codes.{kindOf}
 use Rattle.rules.specs.Growth.{turnFor, turn}
 use Rattle.rules.specs.declared.Assignment.{Assignment}
 use Rattle.rules.specs.declared.Kind.{Kind}
-use Rattle.rules.specs.declared.Kind.the-variants.{R10, R20, R30, R31, R40, R49, R50, R88, R89, Other}
+use Rattle.rules.specs.declared.Kind.the-variants.{R10, R20, R30, R31, R40, R41, R49, R50, R88, R89, Other}
 use Rattle.run_figures.specs.Slots.{slots, allSlots}
 use Rattle.run_figures.specs.Blocks.{doneFor, done, blocks, figuresFrom}
 use Rattle.run_figures.proofs.Slots.{slots-join, one-slots}
@@ -20,6 +20,7 @@ not-done R20 t h = absurd (h refl)
 not-done R30 t h = refl
 not-done R31 t h = refl
 not-done R40 t h = refl
+not-done R41 t h = refl
 not-done R49 t h = refl
 not-done R50 t h = refl
 not-done R88 t h = refl

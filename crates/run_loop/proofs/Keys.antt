@@ -1,4 +1,4 @@
--- A record of one of the nine types has that type's code.
+-- A record of one of the ten types has that type's code.
 -- Assumes nothing.
 use Prim.Native.Nat.{ℕ}
 use mathlib.Core.Path.{_≡_, refl, sym, ap, _∙_}
@@ -14,8 +14,8 @@ Coded n = (kindFor n ≡ Other) ⊎ (n ≡ numberOfKind (kindFor n))
 pub coded : (n : ℕ) → Coded n
 unfolding kindFor Coded
 coded n =
-    at-codes Coded n (inr refl) (inr refl) (inr refl) (inr refl) (inr refl) (inr refl) (inr refl) (inr refl) (inr refl)
-    (λ a b c d e f g h i. inl (simp (a, b, c, d, e, f, g, h, i)))
+    at-codes Coded n (inr refl) (inr refl) (inr refl) (inr refl) (inr refl) (inr refl) (inr refl) (inr refl) (inr refl) (inr refl)
+    (λ a b c d e f g h i j. inl (simp (a, b, c, d, e, f, g, h, i, j)))
 
 pub twenty-code : (n : ℕ) → kindFor n ≡ R20 → n ≡ 20
 unfolding Coded

@@ -20,7 +20,7 @@ use Rattle.rules.specs.Refusals.{refused}
 use Rattle.rules.specs.Run.{stepOf, ended, atEnd, run, chunks, recordAt}
 use Rattle.limits.specs.Limits.{recordBytes, mostRecords, mostAssignments}
 use Rattle.rules.specs.declared.Kind.{Kind}
-use Rattle.rules.specs.declared.Kind.the-variants.{R10, R20, R30, R31, R40, R49, R50, R88, R89, Other}
+use Rattle.rules.specs.declared.Kind.the-variants.{R10, R20, R30, R31, R40, R41, R49, R50, R88, R89, Other}
 use Rattle.rules.specs.declared.Mode.{Mode}
 use Rattle.rules.specs.declared.State.{State}
 use Rattle.rules.specs.declared.Step.{Step}
@@ -47,6 +47,7 @@ one-or-none R20 r = inr (refl, refl)
 one-or-none R30 r = inl refl
 one-or-none R31 r = inl refl
 one-or-none R40 r = inl refl
+one-or-none R41 r = inl refl
 one-or-none R49 r = inl refl
 one-or-none R50 r = inl refl
 one-or-none R88 r = inl refl
@@ -72,6 +73,7 @@ key-count R20 r = refl
 key-count R30 r = refl
 key-count R31 r = refl
 key-count R40 r = refl
+key-count R41 r = refl
 key-count R49 r = refl
 key-count R50 r = refl
 key-count R88 r = refl
@@ -92,6 +94,7 @@ module _ (r : List ℕ) (n : ℕ) (t : AssignmentTotals) (l : List ℕ) (h : 5 *
   ended-front R30 = nothing-ended
   ended-front R31 = nothing-ended
   ended-front R40 = nothing-ended
+  ended-front R41 = nothing-ended
   ended-front R49 = nothing-ended
   ended-front R50 = nothing-ended
   ended-front R88 = nothing-ended

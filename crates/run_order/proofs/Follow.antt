@@ -15,9 +15,9 @@ use Rattle.rules.specs.Codes.{numberOfKind}
 use Rattle.rules.specs.Order.{next, behind, mayFollow, isEnd}
 use Rattle.rules.specs.declared.Assignment.{Assignment}
 use Rattle.rules.specs.declared.Kind.{Kind}
-use Rattle.rules.specs.declared.Kind.the-variants.{R10, R20, R30, R31, R40, R49, R50, R88, R89, Other}
+use Rattle.rules.specs.declared.Kind.the-variants.{R10, R20, R30, R31, R40, R41, R49, R50, R88, R89, Other}
 use Rattle.rules.specs.declared.Mode.{Mode}
-use Rattle.run_order.specs.Whole.{isRemittance, isDraft, wholeBehind}
+use Rattle.run_order.specs.Whole.{isRemittance, isDraft, wholeBehind, messagesBehind}
 use Rattle.run_order.proofs.Each.{eachBool, of-bool, eachMode, of-mode, eachService, of-service, eachKind, of-kind, alike}
 
 -- what the code answers, with the transaction type told as three truth values
@@ -25,7 +25,8 @@ abbrev pub choice : Mode → Kind → ℕ → Bool → Bool → Bool → Bool �
 choice m R30 last rem three four sixteen = eqb last 20 || wholeBehind last rem four sixteen
 choice m R31 last rem three four sixteen = eqb last 30
 choice m R40 last rem three four sixteen = eqb last 31 && rem && (three || four)
-choice m R49 last rem three four sixteen = eqb last 49 || (eqb last 31 && not rem && three)
+choice m R41 last rem three four sixteen = eqb last 40
+choice m R49 last rem three four sixteen = messagesBehind last || (eqb last 31 && not rem && three)
 choice m R50 last rem three four sixteen = eqb last 50 || (eqb last 31 && rem && sixteen)
 choice m R88 last rem three four sixteen = not (isDraft m) && wholeBehind last rem four sixteen
 choice m R20 last rem three four sixteen = eqb last 10 || eqb last 88 || (isDraft m && wholeBehind last rem four sixteen)
@@ -46,7 +47,8 @@ listed m R20 s three four sixteen = 30 ∷ []
 listed m R30 s three four sixteen = 31 ∷ []
 listed m R31 s three four sixteen = text31 m s three four sixteen
 listed m R50 s three four sixteen = 50 ∷ next m
-listed m R40 s three four sixteen = next m
+listed m R40 s three four sixteen = 41 ∷ 49 ∷ next m
+listed m R41 s three four sixteen = 49 ∷ next m
 listed m R49 s three four sixteen = 49 ∷ next m
 listed m R88 s three four sixteen = 20 ∷ 89 ∷ []
 listed m R89 s three four sixteen = []
@@ -61,6 +63,7 @@ listed-is m R20 s t = refl
 listed-is m R30 s t = refl
 listed-is m R31 s t = text31-is m s t
 listed-is m R40 s t = refl
+listed-is m R41 s t = refl
 listed-is m R49 s t = refl
 listed-is m R50 s t = refl
 listed-is m R88 s t = refl

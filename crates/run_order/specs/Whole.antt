@@ -19,4 +19,8 @@ isDraft Draft = true
 -- after a record of this number, with type 4 and type 16 told
 abbrev pub wholeBehind : ℕ → Bool → Bool → Bool → Bool
 wholeBehind last remittance four sixteen =
-    eqb last 40 || eqb last 49 || eqb last 50 || (eqb last 31 && not (remittance && (four || sixteen)))
+    eqb last 40 || eqb last 41 || eqb last 49 || eqb last 50 || (eqb last 31 && not (remittance && (four || sixteen)))
+
+-- a 49 may follow the record of this number: an address, or another 49
+abbrev pub messagesBehind : ℕ → Bool
+messagesBehind last = eqb last 40 || eqb last 41 || eqb last 49

@@ -6,7 +6,7 @@ ghost use lib.ListN.{length};
 ghost use Rattle.limits.specs.Limits.{recordBytes};
 ghost use Rattle.rules.specs.Codes.{kindOf, kindFor, numberOfKind};
 ghost use Rattle.rules.specs.Order.{mayFollow, mayEnd};
-ghost use Rattle.run_order.specs.Whole.{wholeBehind, isRemittance, isDraft};
+ghost use Rattle.run_order.specs.Whole.{wholeBehind, messagesBehind, isRemittance, isDraft};
 use rules::Assignment;
 use rules::Kind;
 use rules::Mode;
@@ -33,6 +33,7 @@ fn kind_for(code: u8) -> Kind
         30 => Kind::R30,
         31 => Kind::R31,
         40 => Kind::R40,
+        41 => Kind::R41,
         49 => Kind::R49,
         50 => Kind::R50,
         10 => Kind::R10,
@@ -53,6 +54,7 @@ pub fn number_of(kind: Kind) -> u8
         Kind::R30 => 30,
         Kind::R31 => 31,
         Kind::R40 => 40,
+        Kind::R41 => 41,
         Kind::R49 => 49,
         Kind::R50 => 50,
         Kind::R88 => 88,
@@ -86,9 +88,18 @@ fn whole_behind(before: Kind, service: Service, code: u8) -> bool
     let last = number_of(before);
     let remittance = is_remittance(service);
     (last == 40)
+        | (last == 41)
         | (last == 49)
         | (last == 50)
         | ((last == 31) & !(remittance & ((code == 4) | (code == 16))))
+}
+
+// An address or a 49 has come: a 49 may follow.
+fn messages_behind(before: Kind) -> bool
+    ensures { λ x. ⌜ x ≡ messagesBehind (numberOfKind before) ⌝ }
+{
+    let last = number_of(before);
+    (last == 40) | (last == 41) | (last == 49)
 }
 
 // A record of this type may stand after the assignment's last one.
@@ -105,7 +116,8 @@ pub fn may_follow(mode: Mode, a: Assignment, kind: Kind) -> bool
         Kind::R40 => (number_of(before) == 31)
             & is_remittance(service)
             & ((code == 3) | (code == 4)),
-        Kind::R49 => (number_of(before) == 49)
+        Kind::R41 => number_of(before) == 40,
+        Kind::R49 => messages_behind(before)
             | ((number_of(before) == 31) & !is_remittance(service) & (code == 3)),
         Kind::R50 => (number_of(before) == 50)
             | ((number_of(before) == 31) & is_remittance(service) & (code == 16)),

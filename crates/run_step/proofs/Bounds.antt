@@ -26,7 +26,7 @@ use Rattle.rules.specs.Layouts.{tableFor, record30, record50, amount50}
 use Rattle.rules.specs.Growth.{afterFor, grouped, groupedAs}
 use Rattle.rules.specs.declared.Assignment.{Assignment}
 use Rattle.rules.specs.declared.Kind.{Kind}
-use Rattle.rules.specs.declared.Kind.the-variants.{R10, R20, R30, R31, R40, R49, R50, R88, R89, Other}
+use Rattle.rules.specs.declared.Kind.the-variants.{R10, R20, R30, R31, R40, R41, R49, R50, R88, R89, Other}
 use Rattle.rules.specs.declared.State.{State}
 
 -- a record more, or an assignment, or a transaction whose amount the sum takes
@@ -93,6 +93,8 @@ small-next k R30 w st ks r s h =
 small-next k R31 w st ks r s h =
     record { file = more-record k (st .file) (s .file); assignment = more-record k (st .assignment .totals .totals) (s .assignment); specified = s .specified; credited = s .credited }
 small-next k R40 w st ks r s h =
+    record { file = more-record k (st .file) (s .file); assignment = more-record k (st .assignment .totals .totals) (s .assignment); specified = s .specified; credited = s .credited }
+small-next k R41 w st ks r s h =
     record { file = more-record k (st .file) (s .file); assignment = more-record k (st .assignment .totals .totals) (s .assignment); specified = s .specified; credited = s .credited }
 small-next k R49 w st ks r s h =
     record { file = more-record k (st .file) (s .file); assignment = more-record k (st .assignment .totals .totals) (s .assignment); specified = s .specified; credited = s .credited }

@@ -127,6 +127,14 @@ fn step40(st: State, r: &[u8]) -> Step
     pass_on(st, record_31_40::check40(r, a), Kind::R40)
 }
 
+fn step41(st: State, r: &[u8]) -> Step
+    requires { ⌜ (length (now r) ≡ recordBytes) × Small mostRecords st ⌝ }
+    ensures { λ x. ⌜ ((w : Window) (ks : List ℕ) → x ≡ kindStep Kind.R41 w st ks (now (r .entry))) ⌝ }
+{
+    let a = st.assignment;
+    pass_on(st, record_41::check41(r, a), Kind::R41)
+}
+
 fn step49(st: State, r: &[u8]) -> Step
     requires { ⌜ (length (now r) ≡ recordBytes) × Small mostRecords st ⌝ }
     ensures { λ x. ⌜ ((w : Window) (ks : List ℕ) → x ≡ kindStep Kind.R49 w st ks (now (r .entry))) ⌝ }
@@ -195,6 +203,7 @@ fn step_for(
         Kind::R30 => step30(st, r, w),
         Kind::R31 => step31(st, r),
         Kind::R40 => step40(st, r),
+        Kind::R41 => step41(st, r),
         Kind::R49 => step49(st, r),
         Kind::R50 => step50(st, r),
         Kind::R88 => step88(st, r),

@@ -60,14 +60,14 @@ pub fn underline(positions: Positions) {
 }
 
 // The positions that a refusal of a record marks: those of the field, or the last where the line feed is missing.
-fn positions_marked(kind: Kind, number: u8, field: u8) -> Positions {
+fn positions_marked(kind: Kind, service: u8, number: u8, field: u8) -> Positions {
     if number == 4 {
         return Positions {
             from: RECORD_BYTES as u64,
             to: RECORD_BYTES as u64,
         };
     }
-    tool_positions::positions_of(kind, field as usize)
+    tool_positions::positions_of(kind, service, field as usize)
 }
 
 fn say_positions(positions: Positions) {
@@ -119,12 +119,13 @@ fn show(x: Refusal, r: &[u8]) {
         return;
     }
     let kind = run_order::kind_of(r);
-    let positions = positions_marked(kind, x.number, x.field);
+    let service = fields::code_at(r, 3);
+    let positions = positions_marked(kind, service, x.number, x.field);
     if 0 < x.field {
         say(b", field ");
         say_number(x.field as u64);
         say(b" (");
-        tool_phrases::say_field(kind, x.field);
+        tool_phrases::say_field(kind, x.field, service);
         say_positions(positions);
         say(b")");
     }

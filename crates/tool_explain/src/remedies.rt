@@ -88,6 +88,7 @@ fn say_types(next: NextTypes) {
     let said = say_type(said, next.r30, b"30");
     let said = say_type(said, next.r31, b"31");
     let said = say_type(said, next.r40, b"40");
+    let said = say_type(said, next.r41, b"41");
     let said = say_type(said, next.r49, b"49");
     let said = say_type(said, next.r50, b"50");
     let said = say_type(said, next.r88, b"88");

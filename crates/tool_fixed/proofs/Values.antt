@@ -3,7 +3,7 @@
 use Prim.Native.Nat.{ℕ, _+_, _-_}
 use mathlib.Core.Logic.{_⊎_, ⊎-elim}
 use mathlib.Core.Path.{_≡_, refl, sym, subst}
-use mathlib.Core.List.{List, [], _∷_}
+use mathlib.Core.List.{List, [], _∷_, _++_}
 use mathlib.Core.Bool.{Bool, true, _&&_}
 use lib.Dec.{eqb}
 use Rattle.choice.specs.Choice.{if_then_else_}
@@ -14,12 +14,13 @@ use Rattle.fields.proofs.Tests.{and-both}
 use Rattle.layout.specs.Rows.{Row, at, must, file, member}
 use Rattle.layout.specs.Rules.{oneOf}
 use Rattle.rules.specs.Codes.{serviceCode}
-use Rattle.rules.specs.Layouts.{tableFor}
+use Rattle.rules.specs.Fields.{messageOf}
+use Rattle.rules.specs.Layouts.{tableFor, repeats, notification49, message49}
 use Rattle.rules.specs.Payments.{isType, typeListed, isLine, isColumn}
 use Rattle.rules.specs.declared.Assignment.{Assignment}
 use Rattle.rules.specs.declared.Kind.{Kind}
-use Rattle.rules.specs.declared.Kind.the-variants.{R10, R20, R30, R31, R40, R49, R50, R88, R89, Other}
-use Rattle.tool_fixed.specs.Fixed.{fixedFor}
+use Rattle.rules.specs.declared.Kind.the-variants.{R10, R20, R30, R31, R40, R41, R49, R50, R88, R89, Other}
+use Rattle.tool_fixed.specs.Fixed.{messageFields, fixedFor}
 use Rattle.tool_fixed.specs.declared.Choice.{Choice}
 use Rattle.tool_fixed.specs.declared.Choice.the-variants.{Services, ClaimTypes, RemittanceTypes, SpecificationTypes, Lines, Columns}
 use Rattle.tool_fixed.specs.declared.Remedy.{Remedy}
@@ -73,6 +74,18 @@ types-pass s h =
     (λ (e : s ≡ 4). subst (λ (x : ℕ). allPass (typeListed x .test) (texts 2 (fixedFor R30 3 x)) ≡ true) (sym e) refl)
     h
 
+-- and so is the layout of a 49
+abbrev messagePasses : ℕ → Assignment → List ℕ → Bool
+messagePasses s a r = allShownPass R49 s (repeats a r ++ notification49 s ++ message49 (messageOf s) (a .places) r)
+
+message-passes : (s : ℕ) (a : Assignment) (r : List ℕ) → (s ≡ 1) ⊎ (s ≡ 4) → messagePasses s a r ≡ true
+unfolding allShownPass fixedFor messageFields notification49 messageOf written oneOf isLine isColumn every same valueFrom
+message-passes s a r h =
+    ⊎-elim
+    (λ (e : s ≡ 1). subst (λ (x : ℕ). messagePasses x a r ≡ true) (sym e) refl)
+    (λ (e : s ≡ 4). subst (λ (x : ℕ). messagePasses x a r ≡ true) (sym e) refl)
+    h
+
 pub shown-passes : (k : Kind) (w : Window) (a : Assignment) (r : List ℕ) → (serviceCode r ≡ 1) ⊎ (serviceCode r ≡ 4) → allShownPass k (serviceCode r) (tableFor k w a r) ≡ true
 unfolding allShownPass fixedFor written oneOf isLine isColumn every same valueFrom
 shown-passes R10 w a r h = refl
@@ -80,7 +93,8 @@ shown-passes R20 w a r h = refl
 shown-passes R30 w a r h = and-both _ true (types-pass (serviceCode r) h) refl
 shown-passes R31 w a r h = refl
 shown-passes R40 w a r h = refl
-shown-passes R49 w a r h = refl
+shown-passes R41 w a r h = refl
+shown-passes R49 w a r h = message-passes (serviceCode r) a r h
 shown-passes R50 w a r h = refl
 shown-passes R88 w a r h = refl
 shown-passes R89 w a r h = refl

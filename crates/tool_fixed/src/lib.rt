@@ -1,7 +1,7 @@
 // The fixed value of each field of each record type, and what a field may be told to have.
 
 ghost use mathlib.Core.Path.{_≡_};
-ghost use Rattle.tool_fixed.specs.Fixed.{typesOf, fixedFields, fixedFor};
+ghost use Rattle.tool_fixed.specs.Fixed.{typesOf, messageFields, fixedFields, fixedFor};
 use rules::Kind;
 
 // Values that a field chooses from.
@@ -41,27 +41,42 @@ fn types_of(service: u8) -> Remedy
     Remedy::OneOf(Choice::RemittanceTypes)
 }
 
-// What fields 2 to 8 of a record type must have where they are refused with 7; `types` are those of a record 30.
-fn fixed_fields(kind: Kind, types: Remedy) -> [Remedy; 7]
-    ensures { λ x. ⌜ x ≡ fixedFields kind types ⌝ }
+// Of a message: service 04 has no mark 3 before the line.
+fn message_fields(service: u8) -> [Remedy; 7]
+    ensures { λ x. ⌜ x ≡ messageFields service ⌝ }
 {
+    let services = Remedy::OneOf(Choice::Services);
+    let types = types_of(service);
     let zeros = Remedy::Zeros;
-    let none = Remedy::Value(0, 2);
-    let service = Remedy::OneOf(Choice::Services);
-    let receiver = Remedy::Value(8080, 8);
     let mark = Remedy::Value(3, 1);
     let line = Remedy::OneOf(Choice::Lines);
     let column = Remedy::OneOf(Choice::Columns);
+    if service == 4 {
+        return [services, types, zeros, zeros, line, column, zeros];
+    }
+    [services, types, zeros, zeros, mark, line, column]
+}
+
+// What fields 2 to 8 of a record of this type and service must have where they are refused with 7.
+fn fixed_fields(kind: Kind, service: u8) -> [Remedy; 7]
+    ensures { λ x. ⌜ x ≡ fixedFields kind service ⌝ }
+{
+    let zeros = Remedy::Zeros;
+    let none = Remedy::Value(0, 2);
+    let services = Remedy::OneOf(Choice::Services);
+    let types = types_of(service);
+    let receiver = Remedy::Value(8080, 8);
     let specified = Remedy::OneOf(Choice::SpecificationTypes);
     let unknown = Remedy::Unknown;
     match kind {
         Kind::R10 => [none, none, zeros, zeros, zeros, receiver, zeros],
-        Kind::R20 => [service, none, zeros, zeros, zeros, zeros, zeros],
-        Kind::R30 => [service, types, zeros, zeros, zeros, zeros, zeros],
-        Kind::R31 => [service, types, zeros, zeros, zeros, zeros, zeros],
-        Kind::R40 => [service, types, zeros, zeros, zeros, zeros, zeros],
-        Kind::R49 => [service, types, zeros, zeros, mark, line, column],
-        Kind::R50 => [service, specified, zeros, zeros, zeros, zeros, zeros],
+        Kind::R20 => [services, none, zeros, zeros, zeros, zeros, zeros],
+        Kind::R30 => [services, types, zeros, zeros, zeros, zeros, zeros],
+        Kind::R31 => [services, types, zeros, zeros, zeros, zeros, zeros],
+        Kind::R40 => [services, types, zeros, zeros, zeros, zeros, zeros],
+        Kind::R41 => [services, types, zeros, zeros, zeros, zeros, zeros],
+        Kind::R49 => message_fields(service),
+        Kind::R50 => [services, specified, zeros, zeros, zeros, zeros, zeros],
         Kind::R88 => [none, none, zeros, zeros, zeros, zeros, zeros],
         Kind::R89 => [none, none, zeros, zeros, zeros, zeros, zeros],
         Kind::Other => [unknown; 7],
@@ -81,6 +96,6 @@ pub fn fixed(kind: Kind, field: u8, service: u8) -> Remedy
     if 8 < field {
         return Remedy::Zeros;
     }
-    let fields = fixed_fields(kind, types_of(service));
+    let fields = fixed_fields(kind, service);
     fields[field as usize - 2]
 }

@@ -46,6 +46,7 @@ fn say_values() {
     say(b"  30;service;type;transaction;DDMMYY;payee or payer;amount;KID\n");
     say(b"  31;service;type;transaction;short name;own reference;the other's reference\n");
     say(b"  40;service;type;transaction;name;postal code;postal filler;area\n");
+    say(b"  41;service;type;transaction;first address line;second address line;country\n");
     say(b"  49;service;type;transaction;line;column;text\n");
     say(b"  50;service;type;transaction;KID;amount\n");
     say(b"An amount is in hundredths of a krone: 80000 is 800.00 kroner.\n");

@@ -49,25 +49,37 @@ fn say_of_files(number: u8) {
     }
 }
 
-// What a field is called; 1 to 4 stand alike in every record.
-pub fn say_field(kind: Kind, field: u8) {
+// What a field is called in a record of this type and service; 1 to 4 stand alike in every record.
+pub fn say_field(kind: Kind, field: u8, service: u8) {
     match field {
         1 => say(b"start NY"),
         2 => say(b"service"),
         3 => say(b"type"),
         4 => say(b"record type"),
-        _ => say_own_field(kind, field),
+        _ => say_own_field(kind, field, service),
     }
 }
 
-fn say_own_field(kind: Kind, field: u8) {
+// A message's field as service 01 counts it: service 04 has no mark, so that its line is field 6 and not 7.
+fn as_in_01(field: u8, service: u8) -> u8 {
+    if (service != 4) | (field < 6) {
+        return field;
+    }
+    if 9 < field {
+        return field;
+    }
+    field + 1
+}
+
+fn say_own_field(kind: Kind, field: u8, service: u8) {
     match kind {
         Kind::R10 => say_field_of_start(field),
         Kind::R20 => say_field_of_assignment(field),
         Kind::R30 => say_field_of_payment(field),
         Kind::R31 => say_field_of_references(field),
         Kind::R40 => say_field_of_address(field),
-        Kind::R49 => say_field_of_message(field),
+        Kind::R41 => say_field_of_second_address(field),
+        Kind::R49 => say_field_of_message(as_in_01(field, service)),
         Kind::R50 => say_field_of_specification(field),
         Kind::R88 => say_field_of_end(field),
         Kind::R89 => say_figure(field),
@@ -121,6 +133,16 @@ fn say_field_of_address(field: u8) {
         7 => say(b"postal code"),
         8 => say(b"postal filler"),
         9 => say(b"area"),
+        _ => say(b"zeros"),
+    }
+}
+
+fn say_field_of_second_address(field: u8) {
+    match field {
+        5 => say(b"transaction number"),
+        6 => say(b"first address line"),
+        7 => say(b"second address line"),
+        8 => say(b"country code"),
         _ => say(b"zeros"),
     }
 }

@@ -15,7 +15,7 @@ use Rattle.rules.specs.Order.{mayFollow}
 use Rattle.rules.specs.declared.Assignment.{Assignment}
 use Rattle.rules.specs.declared.Mode.{Mode}
 use Rattle.rules.specs.declared.Kind.{Kind}
-use Rattle.rules.specs.declared.Kind.the-variants.{R10, R20, R30, R31, R40, R49, R50, R88, R89}
+use Rattle.rules.specs.declared.Kind.the-variants.{R10, R20, R30, R31, R40, R41, R49, R50, R88, R89}
 use Rattle.tool_walk.specs.declared.Seen.{Seen}
 use Rattle.tool_fixed.specs.Fixed.{fixedFor}
 use Rattle.tool_fixed.specs.declared.Remedy.{Remedy}
@@ -49,6 +49,7 @@ nextTypes m s =
       r30 = mayFollow m (atHand s) R30;
       r31 = mayFollow m (atHand s) R31;
       r40 = mayFollow m (atHand s) R40;
+      r41 = mayFollow m (atHand s) R41;
       r49 = mayFollow m (atHand s) R49;
       r50 = mayFollow m (atHand s) R50;
       r88 = mayFollow m (atHand s) R88;

@@ -26,13 +26,13 @@ pub fn tell_made(records: u64) {
 }
 
 // Where in a line the value of a field stands, the record type being in place 0; what has no field stands behind the last value.
-fn place_of(kind: Kind, field: u8) -> usize {
+fn place_of(kind: Kind, service: u8, field: u8) -> usize {
     if field == 4 {
         return 0;
     }
     let mut i: usize = 0;
     while i < 7 {
-        if slots::field_of(slots::slot_at(kind, i)) == field {
+        if slots::field_of(slots::slot_at(kind, service, i)) == field {
             return i + 1;
         }
         i += 1;
@@ -94,21 +94,12 @@ fn say_right_account(line: &[u8], place: usize) {
     say_account(field_accounts::account_of(&digits));
 }
 
-// The service that a line has in its second place, as a code.
-fn service_in(line: &[u8]) -> u8 {
-    let n = number_at(line, 1);
-    if n < 100 {
-        return n as u8;
-    }
-    100
-}
-
-fn say_code(kind: Kind, field: u8, line: &[u8]) {
+fn say_code(kind: Kind, service: u8, field: u8) {
     if field == 4 {
-        say(b"A line begins with its record type: 10, 20, 30, 31, 40, 49 or 50.\n");
+        say(b"A line begins with its record type: 10, 20, 30, 31, 40, 41, 49 or 50.\n");
         return;
     }
-    say_remedy(7, tool_fixed::fixed(kind, field, service_in(line)));
+    say_remedy(7, tool_fixed::fixed(kind, field, service));
 }
 
 fn say_numeral(slot: Slot) {
@@ -118,8 +109,8 @@ fn say_numeral(slot: Slot) {
     }
 }
 
-fn say_form(kind: Kind, field: u8, line: &[u8]) {
-    let place = place_of(kind, field);
+fn say_form(kind: Kind, service: u8, field: u8, line: &[u8]) {
+    let place = place_of(kind, service, field);
     if field == 0 {
         say(b"The line has more values than its record takes.\n");
         return;
@@ -129,13 +120,13 @@ fn say_form(kind: Kind, field: u8, line: &[u8]) {
         return;
     }
     if 0 < place {
-        say_numeral(slots::slot_at(kind, place - 1));
+        say_numeral(slots::slot_at(kind, service, place - 1));
     }
 }
 
 // How many places a field has.
-fn say_places(kind: Kind, field: u8) {
-    let positions = tool_positions::positions_of(kind, field as usize);
+fn say_places(kind: Kind, service: u8, field: u8) {
+    let positions = tool_positions::positions_of(kind, service, field as usize);
     let from = positions.from;
     let to = positions.to;
     if (RECORD_BYTES as u64) < to {
@@ -153,13 +144,13 @@ fn say_places(kind: Kind, field: u8) {
 }
 
 // What would be right, where the rules know it.
-fn say_right(kind: Kind, x: Refusal, line: &[u8]) {
+fn say_right(kind: Kind, service: u8, x: Refusal, line: &[u8]) {
     let number = x.number;
     match number {
-        7 => say_code(kind, x.field, line),
-        8 => say_form(kind, x.field, line),
-        11 => say_right_account(line, place_of(kind, x.field)),
-        22 => say_places(kind, x.field),
+        7 => say_code(kind, service, x.field),
+        8 => say_form(kind, service, x.field, line),
+        11 => say_right_account(line, place_of(kind, service, x.field)),
+        22 => say_places(kind, service, x.field),
         _ => tool_explain::say_form(number),
     }
 }
@@ -176,6 +167,7 @@ fn say_whole(number: u8) {
 // A refused line: the number in words, the field by name, the line itself, and what would be right.
 fn explain_line(x: Refusal, line: &[u8]) {
     let kind = slots::kind_in(line);
+    let service = slots::service_in(line);
     tool_phrases::say_meaning(x.number);
     say(b": line ");
     say_number(x.record);
@@ -183,12 +175,12 @@ fn explain_line(x: Refusal, line: &[u8]) {
         say(b", field ");
         say_number(x.field as u64);
         say(b" (");
-        tool_phrases::say_field(kind, x.field);
+        tool_phrases::say_field(kind, x.field, service);
         say(b")");
     }
     program_lines::end_line();
-    show_line(line, place_of(kind, x.field));
-    say_right(kind, x, line);
+    show_line(line, place_of(kind, service, x.field));
+    say_right(kind, service, x, line);
 }
 
 // The machine's line of a refusal, and what it means; the refusal bears a line of these values in the place of a record.

@@ -27,7 +27,7 @@ use Rattle.rules.specs.Growth.{gainFor, gain, turnFor, turn, keys, start}
 use Rattle.rules.specs.Layouts.{record30, tableFor, rows}
 use Rattle.rules.specs.declared.Assignment.{Assignment}
 use Rattle.rules.specs.declared.Kind.{Kind}
-use Rattle.rules.specs.declared.Kind.the-variants.{R10, R20, R30, R31, R40, R49, R50, R88, R89, Other}
+use Rattle.rules.specs.declared.Kind.the-variants.{R10, R20, R30, R31, R40, R41, R49, R50, R88, R89, Other}
 use Rattle.rules.specs.declared.Mode.{Mode}
 use Rattle.rules.specs.declared.State.{State}
 use Rattle.run_loop.proofs.Bounds.{pays, small-next}
@@ -41,6 +41,7 @@ one R20 r f a n = refl
 one R30 r f a n = refl
 one R31 r f a n = refl
 one R40 r f a n = refl
+one R41 r f a n = refl
 one R49 r f a n = refl
 one R50 r f a n = refl
 one R88 r f a n = refl

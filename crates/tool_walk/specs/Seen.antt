@@ -19,7 +19,7 @@ use Rattle.rules.specs.Fields.{bytesIn, numberIn, transactionField, dateField, 
 use Rattle.rules.specs.Payments.{dateIn, amountIn}
 use Rattle.rules.specs.declared.Assignment.{Assignment}
 use Rattle.rules.specs.declared.Kind.{Kind}
-use Rattle.rules.specs.declared.Kind.the-variants.{R10, R20, R30, R31, R40, R49, R50, R88, R89, Other}
+use Rattle.rules.specs.declared.Kind.the-variants.{R10, R20, R30, R31, R40, R41, R49, R50, R88, R89, Other}
 use Rattle.tool_walk.specs.declared.Seen.{Seen}
 
 -- the last transaction number: it has seven digits
@@ -49,6 +49,7 @@ onwardFor R20 r s =
 onwardFor R30 r s = paidOn (typeCode r) (numberIn transactionField r) (amountIn r) (dateIn r) s
 onwardFor R31 r s = passedOn R31 s
 onwardFor R40 r s = passedOn R40 s
+onwardFor R41 r s = passedOn R41 s
 onwardFor R49 r s = passedOn R49 s
 onwardFor R50 r s = passedOn R50 s
 onwardFor R88 r s = passedOn R88 s

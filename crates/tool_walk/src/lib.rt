@@ -173,6 +173,7 @@ fn grown(seen: Seen, r: &[u8]) -> Seen
         Kind::R30 => paid(seen, r),
         Kind::R31 => passed(seen, Kind::R31),
         Kind::R40 => passed(seen, Kind::R40),
+        Kind::R41 => passed(seen, Kind::R41),
         Kind::R49 => passed(seen, Kind::R49),
         Kind::R50 => passed(seen, Kind::R50),
         Kind::R88 => passed(seen, Kind::R88),

@@ -165,6 +165,7 @@ fn answer_short(all: &[u8]) {
 fn one(k: u64) -> bool {
     let name = [
         b'v',
+        (48 + k / 1000 % 10) as u8,
         (48 + k / 100 % 10) as u8,
         (48 + k / 10 % 10) as u8,
         (48 + k % 10) as u8,
@@ -185,7 +186,7 @@ fn one(k: u64) -> bool {
 
 fn all() {
     let mut k: u64 = 0;
-    while k < 1000 && one(k) {
+    while k < 10000 && one(k) {
         k += 1;
     }
 }

@@ -1,6 +1,6 @@
 //! Times the proved operations and this implementation in one process, turn by
-//! turn: on a season's file, and on files of other sizes. `bench [PICTURE.svg]`
-//! also draws how the cost grows.
+//! turn: on a season's file, on one with second addresses and messages of service 04,
+//! and on files of other sizes. `bench [PICTURE.svg]` also draws how the cost grows.
 
 #[path = "../archive.rs"]
 mod archive;
@@ -11,6 +11,7 @@ use picture::{Line, Panel};
 use reference::answer::{Answer, PLACES, Place, What, of_making};
 use reference::cases::{Case, Operation, answer};
 use reference::make::Values;
+use reference::records::{count, kind};
 use reference::sample::{DAY, Plan, draft_and_file};
 use reference::{RECORD, Variant, make, till};
 use std::hint::black_box;
@@ -44,6 +45,11 @@ fn time(times: usize, mut work: impl FnMut()) -> f64 {
     start.elapsed().as_secs_f64() / times as f64
 }
 
+/// How often a work on so many records is done in a run.
+fn repeats(records: usize) -> usize {
+    (20_000 / records).max(1)
+}
+
 fn sound(answer: &Answer) {
     assert!(Place::What.of(answer) != What::Refused as u64, "refused: {answer:?}");
 }
@@ -73,7 +79,7 @@ impl Work {
             self.ask_archive(&mut out1, &mut out2);
         }
         self.ask_reference(&mut out1, &mut out2);
-        let repeats = (20_000 / self.records).max(1);
+        let repeats = repeats(self.records);
         let (mut of_archive, mut of_reference) = (Vec::new(), Vec::new());
         for _ in 0..runs {
             if has {
@@ -154,12 +160,13 @@ impl<'a> Making<'a> {
         }
         self.ask_reference(&mut out);
         assert!(out == self.draft, "the reference made another draft");
+        let repeats = repeats(self.values.len());
         let (mut of_archive, mut of_reference) = (Vec::new(), Vec::new());
         for _ in 0..RUNS {
             if has {
-                of_archive.push(time(1, || self.ask_archive(&mut out)));
+                of_archive.push(time(repeats, || self.ask_archive(&mut out)));
             }
-            of_reference.push(time(1, || self.ask_reference(&mut out)));
+            of_reference.push(time(repeats, || self.ask_reference(&mut out)));
         }
         (has.then(|| Times::of(of_archive)), Times::of(of_reference))
     }
@@ -205,6 +212,9 @@ fn rows(name: &str, (of_archive, of_reference): (Option<Times>, Times), records:
     println!("{}", row(name, "reference", of_reference, records));
 }
 
+const COLUMNS: &str =
+    "                      ms  ns/record      best      MB/s  archive : reference";
+
 fn season() {
     let (draft, file) = draft_and_file(Plan::SEASON);
     let figures = reference::check(DAY, &file).expect("the season's file is sound");
@@ -216,7 +226,7 @@ fn season() {
         figures.assignments,
         figures.transactions
     );
-    println!("                      ms  ns/record      best      MB/s  archive : reference");
+    println!("{COLUMNS}");
     for work in works(Plan::SEASON) {
         rows(work.case.operation.name(), work.times(RUNS), records);
     }
@@ -227,6 +237,28 @@ fn season() {
     copy();
     let copies = (0..RUNS).map(|_| copy()).collect();
     println!("{}", row("memcpy", "floor", Times::of(copies), records));
+}
+
+/// What the season's file has not: records 41, and 49 of service 04.
+fn notices() {
+    let (draft, file) = draft_and_file(Plan::NOTICES);
+    let figures = reference::check(DAY, &file).expect("the file is sound");
+    let records = file.len() / RECORD;
+    let [addresses, seconds, messages] = [b"40", b"41", b"49"].map(|kind| count(&draft, kind));
+    println!(
+        "\naddresses and messages: {records} records, {} transactions, all of service 04; \
+         {addresses} 40s, {seconds} 41s, {messages} 49s",
+        figures.transactions
+    );
+    println!("{COLUMNS}");
+    let check = Work { case: Case::new(Operation::Check, DAY, file), records };
+    rows(check.case.operation.name(), check.times(RUNS), records);
+    let only_41: Vec<u8> =
+        draft.chunks(RECORD).filter(|r| kind(r) == *b"41").flatten().copied().collect();
+    for (name, records) in [("make", &draft), ("make41", &only_41)] {
+        let making = Making::new(records);
+        rows(name, making.times(), making.values.len());
+    }
 }
 
 /// The operations on one file, and their best times in ns for a record: the
@@ -328,6 +360,7 @@ fn main() -> ExitCode {
         return ExitCode::from(2);
     }
     season();
+    notices();
     let panels = growth();
     let path = std::env::args().nth(1);
     let written = path.map_or(Ok(()), |path| std::fs::write(path, picture::svg(&panels)));

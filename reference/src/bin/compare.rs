@@ -160,30 +160,44 @@ fn report(case: &Case) {
     }
 }
 
-/// The type of the record that a refusal names.
-fn record_type(case: &Case, answer: &Answer) -> String {
-    let (operand, record) = (Place::Operand.of(answer), Place::Record.of(answer));
-    if case.operation == Operation::MakeDraft {
-        let mut lines = case.first.split(|&byte| byte == b'\n');
-        let line = (record as usize).checked_sub(1).and_then(|line| lines.nth(line));
-        return match line.map(|line| line.split(|&byte| byte == b';').next().unwrap_or_default()) {
-            None => "-".into(),
-            Some(kind @ (b"10" | b"20" | b"30" | b"31" | b"40" | b"49" | b"50")) => {
-                String::from_utf8_lossy(kind).into()
-            }
-            Some(_) => "none".into(),
-        };
-    }
-    let data = if operand == 2 { &case.second } else { &case.first };
-    let at = (record as usize).wrapping_sub(1).wrapping_mul(RECORD);
-    match data.get(at + 6..at + 8) {
-        _ if record == 0 => "-".into(),
-        None => "end".into(),
-        Some(kind @ (b"10" | b"20" | b"30" | b"31" | b"40" | b"49" | b"50" | b"88" | b"89")) => {
+/// A type that the documents know. That of a 49 of service 04 bears the service.
+fn known_type(kind: &[u8], is_04: bool) -> String {
+    match kind {
+        b"49" if is_04 => "49/04".into(),
+        b"10" | b"20" | b"30" | b"31" | b"40" | b"41" | b"49" | b"50" | b"88" | b"89" => {
             String::from_utf8_lossy(kind).into()
         }
-        Some(_) => "none".into(),
+        _ => "none".into(),
     }
+}
+
+/// The type of the record that a line of values bears.
+fn type_of_line(line: &[u8]) -> String {
+    let mut words = line.split(|&byte| byte == b';');
+    let (kind, service) = (words.next().unwrap_or_default(), words.next().unwrap_or_default());
+    let zeros = service.iter().take_while(|&&byte| byte == b'0').count();
+    match kind {
+        b"88" | b"89" => "none".into(),
+        _ => known_type(kind, service[zeros..] == *b"4"),
+    }
+}
+
+/// The type of the record that a refusal names, or that is to be made.
+fn record_type(case: &Case, answer: &Answer) -> String {
+    let (operand, record) = (Place::Operand.of(answer), Place::Record.of(answer) as usize);
+    match case.operation {
+        Operation::Make49 => return known_type(b"49", case.numbers[0] == 4),
+        Operation::MakeDraft if record > 0 => {
+            let mut lines = case.first.split(|&byte| byte == b'\n');
+            return lines.nth(record - 1).map_or("none".into(), type_of_line);
+        }
+        _ if record == 0 => return "-".into(),
+        _ => {}
+    }
+    let data = if operand == 2 { &case.second } else { &case.first };
+    let rest = data.get((record - 1) * RECORD..).unwrap_or_default();
+    let types = rest.get(6..8).zip(rest.get(2..4));
+    types.map_or("end".into(), |(kind, service)| known_type(kind, service == b"04"))
 }
 
 /// How often each sort of answer was given.
@@ -202,7 +216,7 @@ impl Histogram {
         println!("operation  number operand field record     cases");
         for ((operation, number, operand, field, kind), count) in &self.0 {
             match number {
-                0 => println!("{operation:<9}  sound {count:>31}"),
+                0 => println!("{operation:<9}  sound {kind:>21} {count:>9}"),
                 _ => println!(
                     "{operation:<9}  {number:>6} {operand:>7} {field:>5} {kind:>6} {count:>9}"
                 ),
@@ -226,12 +240,12 @@ fn success(all_is_well: bool) -> ExitCode {
     if all_is_well { ExitCode::SUCCESS } else { ExitCode::FAILURE }
 }
 
-/// Runs the vectors of a folder, from v000 on.
+/// Runs the vectors of a folder, from v0000 on.
 fn run_vectors(folder: &str) -> ExitCode {
     let operations = operations();
     let (mut asked, mut differ) = (0, 0);
-    for index in 0..1000 {
-        let name = format!("v{index:03}");
+    for index in 0..10_000 {
+        let name = format!("v{index:04}");
         let Ok(vector) = std::fs::read(std::path::Path::new(folder).join(&name)) else { break };
         let case = vectors::read(&vector).expect("a vector");
         if operations.contains(&case.operation) {

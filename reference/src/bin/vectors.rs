@@ -122,6 +122,7 @@ fn sound(seed: u64, assignments: u32) -> (Vec<u8>, Vec<u8>) {
         transactions: 1 + seed as u32 % 4,
         records: None,
         extras: 40,
+        notices: 0,
         extremes: seed.is_multiple_of(2),
     };
     draft_and_file(plan)
@@ -255,6 +256,90 @@ fn refused_closings() -> Vec<Case> {
     cases
 }
 
+/// A draft of one transaction with these records behind its 31.
+fn behind(service: &str, code: &str, records: &[String]) -> Vec<u8> {
+    let head = [r10(), r20(service, 1, 1), r30(service, code, 1, "011125", 100, "")];
+    bytes(&[&head[..], &[r31(service, code, 1)], records].concat())
+}
+
+/// A 40 and a 49 for each of the 42 places.
+fn all_places(code: &str) -> Vec<String> {
+    let message = (0..42).map(|place| r49_04(code, 1, place / 2 + 1, place % 2 + 1));
+    [r40(code, 1)].into_iter().chain(message).collect()
+}
+
+/// Drafts with second addresses and messages of service 04.
+fn sound_notices() -> Vec<Case> {
+    let of = |code: &str, more: &[String]| behind("04", code, &[&[r40(code, 1)], more].concat());
+    // A 20 behind a 49 and behind a 41, the end behind a 49, a 41 and a 40.
+    let (message, second) = (of("03", &[r49_04("03", 1, 9, 1)]), of("04", &[r41("04", 1)]));
+    let two = with(&second, 2, 18, "0000002")[RECORD..].to_vec();
+    let three = with(&second, 2, 18, "0000003")[RECORD..].to_vec();
+    let notified = draft(&notified());
+    let full = behind("04", "03", &all_places("03"));
+    [notified, [message, two, three].concat(), of("04", &[]), full]
+        .iter()
+        .map(|draft| close(draft))
+        .collect()
+}
+
+/// A draft for each record type that may not follow these records, and for one that is none.
+fn misplaced(service: &str, code: &str, records: &[String], may: &[&str]) -> Vec<Vec<u8>> {
+    let file = closed(&behind(service, code, &[]));
+    let end = |at: usize| {
+        String::from_utf8(file[at * RECORD..(at + 1) * RECORD - 1].to_vec()).expect("an end record")
+    };
+    let others = [
+        r10(),
+        r31(service, code, 1),
+        r40(code, 1),
+        r41(code, 1),
+        r50("16", 1, 100),
+        end(4),
+        end(5),
+        r31(service, code, 1).replacen("31", "48", 1),
+    ];
+    others
+        .iter()
+        .filter(|other| !may.contains(&&other[6..8]))
+        .map(|other| {
+            let other = other.replacen("NY04", &format!("NY{service}"), 1);
+            behind(service, code, &[records, &[other]].concat())
+        })
+        .collect()
+}
+
+/// Drafts in which such a record is wrong, or may not stand.
+fn refused_notices() -> Vec<Case> {
+    // Straight behind a 31; then behind a 40, a 41 and a 49.
+    let mut drafts =
+        vec![behind("04", "03", &[r49_04("03", 1, 1, 1)]), behind("04", "04", &[r41("04", 1)])];
+    drafts.extend(misplaced("04", "03", &[r40("03", 1)], &["20", "30", "41", "49"]));
+    drafts.extend(misplaced("04", "04", &[r40("04", 1), r41("04", 1)], &["20", "30", "49"]));
+    let message = r49_04("03", 1, 1, 1);
+    drafts.extend(misplaced("04", "03", &[r40("03", 1), message], &["20", "30", "49"]));
+    drafts.extend(misplaced("01", "03", &[r49(1, 1, 1)], &["20", "30", "49"]));
+    let mut cases: Vec<Case> = drafts.iter().map(|draft| close(draft)).collect();
+    let fields = [(6, 15, "2"), (7, 18, "2"), (8, 16, "0212"), (12, 78, "N")];
+    let draft = draft(&notified());
+    cases.extend(fields.map(|(record, from, text)| close(&with(&draft, record, from, text))));
+    // A 43rd record behind a message of all places.
+    let more = [all_places("04"), vec![r49_04("04", 1, 11, 2)]].concat();
+    cases.push(close(&behind("04", "04", &more)));
+    cases
+}
+
+/// Three files of one sender with second addresses and messages of service 04. The places of a
+/// file's last message are in the next one's too. The second and third: 1 10, 2 20, 3 30, 4 31,
+/// 5 40, 6 41, 7 and 8 49, 9 88, 10 89.
+fn notified_files() -> [Vec<u8>; 3] {
+    let file = |code: &str| {
+        let message = [r49_04(code, 1, 21, 2), r49_04(code, 1, 1, 1)];
+        closed(&behind("04", code, &[&[r40(code, 1), r41(code, 1)], &message[..]].concat()))
+    };
+    [notified(), file("04"), with(&file("03"), 2, 18, "0000002")]
+}
+
 /// A file for each refusal that a check of this length can give.
 fn refused_files() -> Vec<Vec<u8>> {
     let file = every_kind();
@@ -306,6 +391,9 @@ fn sound_joinings() -> Vec<Case> {
     // The sum at its limit, and the most assignments that fit.
     cases.push(join(&closed(&claims(&[MOST - 5])), &file_of("01", &[(2, 1)], 5)));
     cases.push(join(&file_of("04", &keys(0, 489), 1), &file_of("04", &[(5, 1)], 1)));
+    // Second addresses and messages of service 04 in both.
+    let [first, second, _] = notified_files();
+    cases.push(join(&first, &second));
     cases
 }
 
@@ -356,6 +444,9 @@ fn refused_joinings() -> Vec<Case> {
     for (amount, room) in [(6, 810), (6, 0), (5, 0), (MOST, 810)] {
         cases.push(join_on(DAY, &most, &file_of("01", &[(2, 1)], amount), room));
     }
+    // A place twice in a message of service 04 of the second.
+    let [first, second, _] = notified_files();
+    cases.push(join(&first, &with(&second, 8, 16, "0212")));
     cases
 }
 
@@ -385,6 +476,10 @@ fn partings() -> Vec<Case> {
     // The first date of each part.
     let dates = joined(&joined(&dated(1, "010126"), &dated(2, "311225")), &dated(3, "280226"));
     cases.extend([part(&dates, 1), part(&dates, 2)]);
+    // Second addresses and messages of service 04 in each assignment.
+    let [first, second, third] = notified_files();
+    let notices = joined(&joined(&first, &second), &third);
+    cases.extend([part(&notices, 1), part(&notices, 2)]);
     // The check's refusals, before 21 and 19.
     cases.extend(refused_files().iter().map(|file| part_on(DAY, file, 1, [2000, 2000])));
     cases.push(part_on((2025, 11, 31), &pair, 1, [486, 486]));
@@ -442,6 +537,12 @@ fn sound_makings() -> Vec<Case> {
         b"40;1;2;1;;;;\n40;4;3;1; a;1 2; 34;b\n40;4;4;1;K;0150;   ;K\n40;4;4;1;\xA0;0000;;.\n",
     ));
     cases.push(make("49;1;3;1;1;1;\n49;1;2;1;021;2;x\n49;4;66;1;21;2;;;"));
+    cases.push(make(till::plain_lines(&draft(&notified()))));
+    let texts = [&letters[35..65], &letters[65..95], b"SE "].join(&b';');
+    cases.push(make(
+        [b"41;4;3;9999999;", &texts[..], b"\n41;1;2;0; a;;9 \n41;4;66;1;;b;\n41;4;4;1;;; "]
+            .concat(),
+    ));
     cases.push(make(format!("50;4;16;1;{left};{most}\n50;1;17;0;{right};0\n50;4;17;1;5;1\n")));
     cases
 }
@@ -508,6 +609,25 @@ fn refused_makings() -> Vec<Case> {
         "49;1;3;1;1;0;\0".into(),
         "49;1;3;1;1;3;\0".into(),
         "49;1;3;1;1;2;\0".into(),
+        // 41
+        "41;9;3;10000000;;;NORD".into(),
+        format!("41;9;3;1;{};;", blanks(31)),
+        format!("41;4;3;1;;{};NORD", blanks(31)),
+        "41;9;9;1;\u{1};;NORD".into(),
+        "41;5;3;1;\u{1};;".into(),
+        "41;1;4;1;\u{1};;SE".into(),
+        "41;4;4;1;\u{1};\u{1};SE".into(),
+        "41;4;3;1;;\u{7f};\u{1}".into(),
+        "41;4;3;1;;;\tSE".into(),
+        "41;4;4;1;;;SE".into(),
+        // 49 of service 04
+        "49;4;9;1;1000;10;".into(),
+        "49;4;9;1;0;10;".into(),
+        format!("49;4;9;1;0;0;{}", blanks(41)),
+        "49;4;5;1;0;0;\0".into(),
+        "49;4;3;1;22;0;\0".into(),
+        "49;4;4;1;21;3;\0".into(),
+        "49;4;4;1;1;2;\0".into(),
         // 50
         format!("50;4;16;1;{};{over}", blanks(26)),
         format!("50;9;16;1;1;{over}"),
@@ -537,12 +657,16 @@ fn refused_lines() -> Vec<Case> {
         b"20",
         b"30;4;2;1;011125;12345678903;80000",
         b"31;x",
+        b"41;4;3;1;A;B",
+        b"49;4;3;1",
+        b"49;9;3;1;1",
         b"10;1;1;;1",
         b"31;4;2;1;MAKRELL;;; ;",
         // No number.
         b"10;1a;2b",
         b"20;4;1;;12345678903",
         b"49;1;3;1;1;+1;",
+        b"49;4;3;1;1;x;",
         b"50;4;16;1;1;1\x00",
         b"10;1;1\r\r",
         b"10;100000000;x",
@@ -560,8 +684,11 @@ fn refused_lines() -> Vec<Case> {
     cases
 }
 
+/// A name has four digits.
+const NAMES: usize = 10_000;
+
 fn name(index: usize) -> String {
-    format!("v{index:03}")
+    format!("v{index:04}")
 }
 
 /// Writes a file, unless it is there just so: a file that did not change does
@@ -577,10 +704,13 @@ fn main() -> io::Result<()> {
     let is_kept = |index: usize| {
         fs::read(data.join(name(index))).is_ok_and(|vector| vector.starts_with(b"check "))
     };
-    let kept = (0..1000).take_while(|&index| is_kept(index)).count();
+    let kept = (0..NAMES).take_while(|&index| is_kept(index)).count();
 
     let groups = [
-        ("close", [sound_closings(), refused_closings()].concat()),
+        (
+            "close",
+            [sound_closings(), refused_closings(), sound_notices(), refused_notices()].concat(),
+        ),
         ("join", [sound_joinings(), refused_joinings()].concat()),
         ("part", partings()),
         ("make", [sound_makings(), refused_makings(), refused_lines()].concat()),
@@ -594,8 +724,8 @@ fn main() -> io::Result<()> {
             index += 1;
         }
     }
-    assert!(index <= 1000, "a name has three digits");
-    (index..1000).for_each(|index| drop(fs::remove_file(data.join(name(index)))));
+    assert!(index <= NAMES, "a name has four digits");
+    (index..NAMES).for_each(|index| drop(fs::remove_file(data.join(name(index)))));
 
     let mut lines = String::new();
     for index in 0..index {

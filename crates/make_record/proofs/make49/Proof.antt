@@ -2,7 +2,7 @@
 -- Assumes nothing.
 use Rattle.rules.specs.declared.Kind.the-variants.{R49}
 use Rattle.operations.specs.Making.{made49}
-use Rattle.make_record.proofs.Promised.{long-promised, handed-promised}
+use Rattle.make_record.proofs.Promised.{long-promised, handed-promised, words-fit}
 use mathlib.Core.Path.{refl, sym, _∙_}
 use borrow.Author.Tests.{leb-true}
 use lib.ListN.{length}
@@ -44,7 +44,7 @@ unfolding AllFit
 put49-requires c κs =
     let a = c .before .before .before .before .before .before .args in
     let fit = all-fit (made49 (a .service) (a .code) (a .number) (a .line) (a .column) (a .text .now)) (sym (c .before .before .before .long49 .ensures) ∙ c .before .enum-told .given .1) in
-    (refl, leb-true (length (a .text .now)) 40 (fit .1 .1 .1 .1 .1 .1 .1 .1 .0))
+    (refl, leb-true (length (a .text .now)) 40 (words-fit (a .service) (a .line) (a .column) (a .text .now) (fit .1 .1 .1 .1 .1)))
 
 slice-aggregate-own49 : tie.Need-slice-aggregate-own49
 slice-aggregate-own49 c = search needs

@@ -1,7 +1,10 @@
--- Record 49.
+-- Record 49: with no place taken, its own rows are what its fields are found to be.
 -- Assumes nothing.
-use Rattle.make_rules.specs.Pieces.{headed, message}
+use mathlib.Core.Path.{_∙_}
+use Rattle.rules.specs.Layouts.{fields49}
+use Rattle.make_rules.specs.Pieces.{headed}
 use Rattle.make_rules.proofs.Chains.{then-piece}
+use Rattle.make_rules.proofs.Messages.{message-alone}
 use Rattle.rules.specs.Alone.{ownTable, ownRows}
 use borrow.Author.Needs.{needs}
 use Rattle.make_rules.proofs.own49.Statement.{statement}
@@ -10,13 +13,13 @@ use Rattle.make_rules.proofs.own49.Reads as reads
 use Rattle.make_rules.proofs.own49.Lts as lts
 use Rattle.layout.proofs.Finding.or_else.Reads as or-else-reads
 use Rattle.make_rules.proofs.heading.Reads as heading-reads
-use Rattle.make_rules.proofs.message.Reads as message-reads
+use Rattle.record_49.proofs.own_fields.Reads as own-fields-reads
+
+own-fields-requires : tie.Need-own-fields-requires
+own-fields-requires c κs = search needs
 
 heading-requires : tie.Need-heading-requires
 heading-requires c κs = search needs
-
-message-requires : tie.Need-message-requires
-message-requires c κs = search needs
 
 or-else-requires : tie.Need-or-else-requires
 or-else-requires c κs = search needs
@@ -26,7 +29,7 @@ unfolding ownTable ownRows
 returns c = λ f ks.
     let q = c .before .before in
     let r = q .before .before .args .r .now in
-    then-piece f ks r (headed r) message (c .or-else .ensures) (q .heading .ensures f ks) (c .before .message .ensures f ks)
+    then-piece f ks r (headed r) (ownRows r (fields49 0 r)) (c .or-else .ensures) (c .before .heading .ensures f ks) (q .own-fields .ensures .finding f ks ∙ message-alone f ks r)
 
 pub own49-spec : {M : Type 1} → statement M
-own49-spec = tie.close (tie.spec heading-requires message-requires or-else-requires returns)
+own49-spec = tie.close (tie.spec own-fields-requires heading-requires or-else-requires returns)

@@ -1,12 +1,11 @@
-use Rattle.tool_fixed.specs.Fixed.{fixedFor}
 use borrow.Author.Tests.{eq-eqb, ne-eqb, lt-ltb, le-ltb}
+use Rattle.tool_fixed.specs.Fixed.{fixedFor}
 use borrow.Author.Needs.{needs}
 use Rattle.tool_fixed.proofs.fixed.Statement.{statement}
 use Rattle.tool_fixed.proofs.fixed.Tie as tie
 use Rattle.tool_fixed.proofs.fixed.Reads as reads
 use Rattle.tool_fixed.proofs.fixed.Lts as lts
 use Rattle.tool_fixed.proofs.fixed_fields.Reads as fixed-fields-reads
-use Rattle.tool_fixed.proofs.types_of.Reads as types-of-reads
 
 returns : tie.Need-returns
 unfolding fixedFor
@@ -19,9 +18,6 @@ returns-2 c = simp (ne-eqb _ _ (c .before .if1 .left), lt-ltb _ _ (c .if2 .taken
 returns-3 : tie.Need-returns-3
 unfolding fixedFor
 returns-3 c = simp (ne-eqb _ _ (c .before .before .if1 .left), le-ltb _ _ (c .before .if2 .left), lt-ltb _ _ (c .if3 .taken))
-
-types-of-requires : tie.Need-types-of-requires
-types-of-requires c κs = search needs
 
 fixed-fields-requires : tie.Need-fixed-fields-requires
 fixed-fields-requires c κs = search needs
@@ -38,8 +34,8 @@ array-copy-out-result c = search needs
 returns-4 : tie.Need-returns-4
 unfolding fixedFor
 returns-4 c =
-    let s = c .before .before .before in
-    simp (ne-eqb _ _ (s .before .before .if1 .left), le-ltb _ _ (s .before .if2 .left), le-ltb _ _ (s .if3 .left), c .before .fixed-fields .ensures, c .before .before .types-of .ensures)
+    let s = c .before .before in
+    simp (ne-eqb _ _ (s .before .before .if1 .left), le-ltb _ _ (s .before .if2 .left), le-ltb _ _ (s .if3 .left), c .before .fixed-fields .ensures)
 
 pub fixed-spec : {M : Type 1} → statement M
 fixed-spec =
@@ -48,7 +44,6 @@ fixed-spec =
     returns
     returns-2
     returns-3
-    types-of-requires
     fixed-fields-requires
     sub-result
     mul-result

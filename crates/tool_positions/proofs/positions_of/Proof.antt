@@ -1,4 +1,4 @@
-use Rattle.tool_positions.specs.Positions.{positionsOf}
+use Rattle.tool_positions.specs.Positions.{positionsIn}
 use mathlib.Core.Path.{_∙_}
 use borrow.Author.Tests.{lt-ltb, le-ltb}
 use borrow.Author.Needs.{needs}
@@ -14,14 +14,14 @@ nowhere-requires : tie.Need-nowhere-requires
 nowhere-requires c κs = search needs
 
 returns : tie.Need-returns
-unfolding positionsOf
+unfolding positionsIn
 returns c = c .nowhere .ensures ∙ simp (lt-ltb _ _ (c .before .if1 .taken))
 
 nowhere-requires-2 : tie.Need-nowhere-requires-2
 nowhere-requires-2 c κs = search needs
 
 returns-2 : tie.Need-returns-2
-unfolding positionsOf
+unfolding positionsIn
 returns-2 c = c .nowhere2 .ensures ∙ simp (le-ltb _ _ (c .before .before .if1 .left), lt-ltb _ _ (c .before .if2 .taken))
 
 ends-of-requires : tie.Need-ends-of-requires
@@ -33,8 +33,8 @@ array-read-wide c = search needs
 wide-requires : tie.Need-wide-requires
 wide-requires c κs = search needs
 
-add-t11 : tie.Need-add-t11
-add-t11 c = search needs
+add-t12 : tie.Need-add-t12
+add-t12 c = search needs
 
 array-read-wide-2 : tie.Need-array-read-wide-2
 array-read-wide-2 c = search needs
@@ -43,7 +43,7 @@ wide-requires-2 : tie.Need-wide-requires-2
 wide-requires-2 c κs = search needs
 
 returns-3 : tie.Need-returns-3
-unfolding positionsOf
+unfolding positionsIn
 returns-3 c = simp (le-ltb _ _ (c .before .before .before .before .if1 .left), le-ltb _ _ (c .before .before .before .if2 .left), c .before .wide .ensures .0, c .wide2 .ensures .0, c .before .before .ends-of .ensures)
 
 pub positions-of-spec : {M : Type 1} → statement M
@@ -57,7 +57,7 @@ positions-of-spec =
     ends-of-requires
     array-read-wide
     wide-requires
-    add-t11
+    add-t12
     array-read-wide-2
     wide-requires-2
     returns-3)

@@ -37,9 +37,12 @@ may-follow-requires-8 c κs = search needs
 may-follow-requires-9 : tie.Need-may-follow-requires-9
 may-follow-requires-9 c κs = search needs
 
+may-follow-requires-10 : tie.Need-may-follow-requires-10
+may-follow-requires-10 c κs = search needs
+
 returns : tie.Need-returns
 unfolding nextTypes
-returns c = simp (c .before .before .before .before .before .before .before .before .may-follow .ensures, c .before .before .before .before .before .before .before .may-follow2 .ensures, c .before .before .before .before .before .before .may-follow3 .ensures, c .before .before .before .before .before .may-follow4 .ensures, c .before .before .before .before .may-follow5 .ensures, c .before .before .before .may-follow6 .ensures, c .before .before .may-follow7 .ensures, c .before .may-follow8 .ensures, c .may-follow9 .ensures, c .before .before .before .before .before .before .before .before .before .at-hand .ensures)
+returns c = simp (c .before .before .before .before .before .before .before .before .before .may-follow .ensures, c .before .before .before .before .before .before .before .before .may-follow2 .ensures, c .before .before .before .before .before .before .before .may-follow3 .ensures, c .before .before .before .before .before .before .may-follow4 .ensures, c .before .before .before .before .before .may-follow5 .ensures, c .before .before .before .before .may-follow6 .ensures, c .before .before .before .may-follow7 .ensures, c .before .before .may-follow8 .ensures, c .before .may-follow9 .ensures, c .may-follow10 .ensures, c .before .before .before .before .before .before .before .before .before .before .at-hand .ensures)
 
 pub next-types-spec : {M : Type 1} → statement M
 next-types-spec =
@@ -55,4 +58,5 @@ next-types-spec =
     may-follow-requires-7
     may-follow-requires-8
     may-follow-requires-9
+    may-follow-requires-10
     returns)

@@ -11,10 +11,10 @@ use Rattle.make_lines.proofs.slots.slot_at.Reads as slot-at-reads
 use Rattle.make_lines.proofs.slots.slots_in.Reads as slots-in-reads
 
 abbrev Inv-loop : tie.InvT-loop
-Inv-loop kind field i₀ i = i ≤ 7
+Inv-loop kind service field i₀ i = i ≤ 7
 
 abbrev μ-loop : tie.MeasureT-loop
-μ-loop kind field i₀ i = 7 - i
+μ-loop kind service field i₀ i = 7 - i
 
 returns : tie.Need-returns Inv-loop μ-loop
 returns c = tt

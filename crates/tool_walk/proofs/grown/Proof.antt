@@ -92,6 +92,12 @@ passed-requires-6 c κs = (sym (c .before .before .before .before .before .befor
 enum-told-10 : tie.Need-enum-told-10
 enum-told-10 c = search needs
 
+passed-requires-7 : tie.Need-passed-requires-7
+passed-requires-7 c κs = (sym (c .before .before .before .before .before .before .has-room .ensures) ∙ not-false _ (c .before .before .before .before .before .if1 .left), sym (c .before .before .before .before .has-room2 .ensures) ∙ not-false _ (c .before .before .before .if2 .left))
+
+enum-told-11 : tie.Need-enum-told-11
+enum-told-11 c = search needs
+
 returns-3 : tie.Need-returns-3
 returns-3 c = λ f. typed _ _ (c .before .before .before .before .before .before .before .before .before .before .before .before .args .r .now) _ _ (c .before .before .before .before .kind-of .ensures) (c .before .before .enum-told .given .1) (c .outside .ensures ∙ ap (outsideOf R10) (c .before .with-record .ensures))
 
@@ -120,7 +126,10 @@ returns-11 : tie.Need-returns-11
 returns-11 c = λ f. typed _ _ (c .before .before .before .before .before .before .before .before .before .before .before .args .r .now) _ _ (c .before .before .before .kind-of .ensures) (c .before .enum-told9 .given .1) (c .passed6 .ensures)
 
 returns-12 : tie.Need-returns-12
-returns-12 c = λ f. absurd (f .known (sym (c .before .before .kind-of .ensures) ∙ c .enum-told10 .given .1))
+returns-12 c = λ f. typed _ _ (c .before .before .before .before .before .before .before .before .before .before .before .args .r .now) _ _ (c .before .before .before .kind-of .ensures) (c .before .enum-told10 .given .1) (c .passed7 .ensures)
+
+returns-13 : tie.Need-returns-13
+returns-13 c = λ f. absurd (f .known (sym (c .before .before .kind-of .ensures) ∙ c .enum-told11 .given .1))
 
 pub grown-spec : {M : Type 1} → statement M
 grown-spec =
@@ -151,6 +160,8 @@ grown-spec =
     enum-told-9
     passed-requires-6
     enum-told-10
+    passed-requires-7
+    enum-told-11
     returns-3
     returns-4
     returns-5
@@ -160,4 +171,5 @@ grown-spec =
     returns-9
     returns-10
     returns-11
-    returns-12)
+    returns-12
+    returns-13)

@@ -7,10 +7,10 @@ use Rattle.vectors.proofs.all.Lts as lts
 use Rattle.vectors.proofs.one.Reads as one-reads
 
 abbrev Inv-loop : tie.InvT-loop
-Inv-loop k₀ k = k ≤ 1000
+Inv-loop k₀ k = k ≤ 10000
 
 abbrev μ-loop : tie.MeasureT-loop
-μ-loop k₀ k = 1000 - k
+μ-loop k₀ k = 10000 - k
 
 loop-holds : tie.Need-loop-holds Inv-loop μ-loop
 loop-holds c = omega arith

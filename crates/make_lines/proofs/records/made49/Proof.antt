@@ -1,7 +1,9 @@
+-- A 49 from the values of a line, numbers up to the cap; a capped service is no other.
+-- Assumes nothing.
 use mathlib.Core.Path.{refl}
 use native.Mathlib.Omega.{arith}
 use Rattle.rules.specs.declared.Kind.the-variants.{R49}
-use Rattle.make_lines.proofs.Caps.{also, given-left, given-number, none, same-promise, same-put}
+use Rattle.make_lines.proofs.Caps.{also, given-message, given-number, same-promise, same-put}
 use borrow.Author.Needs.{needs}
 use Rattle.make_lines.proofs.records.made49.Statement.{statement}
 use Rattle.make_lines.proofs.records.made49.Tie as tie
@@ -44,11 +46,7 @@ returns c =
     (also (given-number s 1 3 2 _ (omega arith) (c .before .before .before .before .before .before .before .before .number-at2 .ensures))
     (also (same-put refl)
     (also (given-number s 2 5 7 _ (omega arith) (c .before .before .before .before .before .before .before .number-at3 .ensures))
-    (also (same-put refl)
-    (also (given-number s 3 7 3 _ (omega arith) (c .before .before .before .before .before .before .number-at4 .ensures))
-    (also (given-number s 4 8 1 _ (omega arith) (c .before .before .before .before .before .number-at5 .ensures))
-    (also (given-left s 5 9 40 _ (c .before .before .before .before .value-at .ensures))
-    (also (same-put refl) none))))))))))
+    (given-message s _ (c .before .before .before .before .before .before .before .before .before .number-at .ensures) _ _ _ (c .before .before .before .before .before .before .number-at4 .ensures) (c .before .before .before .before .before .number-at5 .ensures) (c .before .before .before .before .value-at .ensures)))))))
 
 pub made49-spec : {M : Type 1} → statement M
 made49-spec =

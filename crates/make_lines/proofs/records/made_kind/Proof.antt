@@ -1,6 +1,8 @@
+-- The record types in turn.
+-- Assumes nothing.
 use mathlib.Core.Path.{sym, ap, _∙_}
 use mathlib.Core.Bool.{false≢true}
-use Rattle.rules.specs.declared.Kind.the-variants.{R10, R20, R30, R31, R40, R49, R50}
+use Rattle.rules.specs.declared.Kind.the-variants.{R10, R20, R30, R31, R40, R41, R49, R50}
 use Rattle.make_lines.specs.Draft.{isGiven, givenIn}
 use Rattle.make_lines.proofs.Made.{of-kind}
 use borrow.Author.Needs.{needs}
@@ -13,6 +15,7 @@ use Rattle.make_lines.proofs.records.made20.Reads as made20-reads
 use Rattle.make_lines.proofs.records.made30.Reads as made30-reads
 use Rattle.make_lines.proofs.records.made31.Reads as made31-reads
 use Rattle.make_lines.proofs.records.made40.Reads as made40-reads
+use Rattle.make_lines.proofs.records.made41.Reads as made41-reads
 use Rattle.make_lines.proofs.records.made49.Reads as made49-reads
 use Rattle.make_lines.proofs.records.made50.Reads as made50-reads
 
@@ -49,23 +52,29 @@ made40-requires c κs = search needs
 enum-told-6 : tie.Need-enum-told-6
 enum-told-6 c = search needs
 
-made49-requires : tie.Need-made49-requires
-made49-requires c κs = search needs
+made41-requires : tie.Need-made41-requires
+made41-requires c κs = search needs
 
 enum-told-7 : tie.Need-enum-told-7
 enum-told-7 c = search needs
 
-made50-requires : tie.Need-made50-requires
-made50-requires c κs = search needs
+made49-requires : tie.Need-made49-requires
+made49-requires c κs = search needs
 
 enum-told-8 : tie.Need-enum-told-8
 enum-told-8 c = search needs
+
+made50-requires : tie.Need-made50-requires
+made50-requires c κs = search needs
 
 enum-told-9 : tie.Need-enum-told-9
 enum-told-9 c = search needs
 
 enum-told-10 : tie.Need-enum-told-10
 enum-told-10 c = search needs
+
+enum-told-11 : tie.Need-enum-told-11
+enum-told-11 c = search needs
 
 same-length : tie.Need-same-length
 same-length c = search needs
@@ -113,7 +122,7 @@ same-length-6 c = search needs
 returns-6 : tie.Need-returns-6
 returns-6 c =
     let a = c .before .before .before .before .before .before .before .before .args in
-    of-kind (a .kind) R49 (givenIn (a .line .now)) (c .before .before .before .before .enum-told6 .given .1) (c .before .before .made49 .ensures)
+    of-kind (a .kind) R41 (givenIn (a .line .now)) (c .before .before .before .before .enum-told6 .given .1) (c .before .before .made41 .ensures)
 
 same-length-7 : tie.Need-same-length-7
 same-length-7 c = search needs
@@ -121,16 +130,24 @@ same-length-7 c = search needs
 returns-7 : tie.Need-returns-7
 returns-7 c =
     let a = c .before .before .before .before .before .before .before .before .args in
-    of-kind (a .kind) R50 (givenIn (a .line .now)) (c .before .before .before .before .enum-told7 .given .1) (c .before .before .made50 .ensures)
+    of-kind (a .kind) R49 (givenIn (a .line .now)) (c .before .before .before .before .enum-told7 .given .1) (c .before .before .made49 .ensures)
+
+same-length-8 : tie.Need-same-length-8
+same-length-8 c = search needs
 
 returns-8 : tie.Need-returns-8
-returns-8 c = absurd (false≢true (sym (ap isGiven (c .enum-told8 .given .1)) ∙ c .before .before .before .before .pre))
+returns-8 c =
+    let a = c .before .before .before .before .before .before .before .before .args in
+    of-kind (a .kind) R50 (givenIn (a .line .now)) (c .before .before .before .before .enum-told8 .given .1) (c .before .before .made50 .ensures)
 
 returns-9 : tie.Need-returns-9
 returns-9 c = absurd (false≢true (sym (ap isGiven (c .enum-told9 .given .1)) ∙ c .before .before .before .before .pre))
 
 returns-10 : tie.Need-returns-10
 returns-10 c = absurd (false≢true (sym (ap isGiven (c .enum-told10 .given .1)) ∙ c .before .before .before .before .pre))
+
+returns-11 : tie.Need-returns-11
+returns-11 c = absurd (false≢true (sym (ap isGiven (c .enum-told11 .given .1)) ∙ c .before .before .before .before .pre))
 
 pub made-kind-spec : {M : Type 1} → statement M
 made-kind-spec =
@@ -147,12 +164,14 @@ made-kind-spec =
     enum-told-5
     made40-requires
     enum-told-6
-    made49-requires
+    made41-requires
     enum-told-7
-    made50-requires
+    made49-requires
     enum-told-8
+    made50-requires
     enum-told-9
     enum-told-10
+    enum-told-11
     same-length
     returns
     same-length-2
@@ -167,6 +186,8 @@ made-kind-spec =
     returns-6
     same-length-7
     returns-7
+    same-length-8
     returns-8
     returns-9
-    returns-10)
+    returns-10
+    returns-11)

@@ -1,3 +1,5 @@
+-- The semicolons in turn, one for each value.
+-- Assumes nothing.
 use Rattle.layout.specs.declared.Finding.the-variants.{Fault}
 use Rattle.layout.specs.declared.Finding.{Finding}
 use Prim.Native.Nat.{_-_, _≤_}
@@ -21,10 +23,10 @@ use Rattle.make_lines.proofs.slots.slot_at.Reads as slot-at-reads
 use Rattle.make_lines.proofs.slots.slots_in.Reads as slots-in-reads
 
 abbrev Inv-loop : tie.InvT-loop
-Inv-loop kind line n at₀ i₀ at i = (at ≤ length line) × (i ≤ n) × (counted (drop i (slotsOf kind)) (drop 1 (valuesOf (drop at line))) ≡ counted (slotsOf kind) (givenIn line))
+Inv-loop kind service line n at₀ i₀ at i = (at ≤ length line) × (i ≤ n) × (counted (drop i (slotsOf kind service)) (drop 1 (valuesOf (drop at line))) ≡ counted (slotsOf kind service) (givenIn line))
 
 abbrev μ-loop : tie.MeasureT-loop
-μ-loop kind line n at₀ i₀ at i = n - i
+μ-loop kind service line n at₀ i₀ at i = n - i
 
 slots-in-requires : tie.Need-slots-in-requires Inv-loop μ-loop
 slots-in-requires c κs = search needs
@@ -46,7 +48,7 @@ returns c =
     let p = c .before .before .before .before .before in
     let a = p .before .before .before .args in
     ap (Fault 8) (c .field-of .ensures ∙ ap fieldOf (c .before .slot-at .ensures))
-    ∙ sym (count-missing (slotsOf (a .kind)) (a .line .now) (p .loop .i) (p .loop .at) _ (c .before .before .before .find .ensures .1) (p .loop .inv .0) (omega (arith, p .before .slots-in .ensures)) (c .before .before .if1 .taken))
+    ∙ sym (count-missing (slotsOf (a .kind) (a .service)) (a .line .now) (p .loop .i) (p .loop .at) _ (c .before .before .before .find .ensures .1) (p .loop .inv .0) (omega (arith, p .before .slots-in .ensures (a .service))) (c .before .before .if1 .taken))
     ∙ p .loop .inv .2
 
 add-at : tie.Need-add-at Inv-loop μ-loop
@@ -64,7 +66,7 @@ loop-again c =
     let a = p .before .before .before .args in (
       omega (arith, c .before .find .ensures .0, c .if1 .left),
       omega arith,
-      sym (count-next (slotsOf (a .kind)) (a .line .now) (p .loop .i) (p .loop .at) _ (c .before .find .ensures .1) (p .loop .inv .0) (omega (arith, p .before .slots-in .ensures)) (omega (arith, c .before .find .ensures .0, c .if1 .left)))
+      sym (count-next (slotsOf (a .kind) (a .service)) (a .line .now) (p .loop .i) (p .loop .at) _ (c .before .find .ensures .1) (p .loop .inv .0) (omega (arith, p .before .slots-in .ensures (a .service))) (omega (arith, c .before .find .ensures .0, c .if1 .left)))
           ∙ p .loop .inv .2,
     )
 
@@ -94,7 +96,7 @@ returns-2 c =
     let p = c .before .before .before .before .before .before in
     let a = p .before .before .before .args in
     c .demand .ensures
-    ∙ count-end (slotsOf (a .kind)) (a .line .now) (p .loop .i) (p .loop .at) _ (c .before .before .before .before .find2 .ensures .1) (p .loop .inv .0) (omega (arith, p .before .slots-in .ensures)) _ _ (c .before .before .before .past .ensures .1) (c .before .only-semicolons .ensures)
+    ∙ count-end (slotsOf (a .kind) (a .service)) (a .line .now) (p .loop .i) (p .loop .at) _ (c .before .before .before .before .find2 .ensures .1) (p .loop .inv .0) (omega (arith, p .before .slots-in .ensures (a .service))) _ _ (c .before .before .before .past .ensures .1) (c .before .only-semicolons .ensures)
     ∙ p .loop .inv .2
 
 pub counted-spec : {M : Type 1} → statement M

@@ -1,3 +1,5 @@
+-- The values in turn, each with its slot.
+-- Assumes nothing.
 use Rattle.layout.specs.declared.Finding.{Finding}
 use Prim.Native.Nat.{_+_, _-_, _≤_}
 use mathlib.Core.Path.{_≡_, refl, sym, ap, _∙_}
@@ -17,10 +19,10 @@ use Rattle.make_lines.proofs.slots.slot_found.Reads as slot-found-reads
 use Rattle.make_lines.proofs.slots.slots_in.Reads as slots-in-reads
 
 abbrev Inv-loop : tie.InvT-loop
-Inv-loop kind line n i₀ i = (i ≤ n) × (numerals (drop i (slotsOf kind)) (drop i (givenIn line)) ≡ numerals (slotsOf kind) (givenIn line))
+Inv-loop kind service line n i₀ i = (i ≤ n) × (numerals (drop i (slotsOf kind service)) (drop i (givenIn line)) ≡ numerals (slotsOf kind service) (givenIn line))
 
 abbrev μ-loop : tie.MeasureT-loop
-μ-loop kind line n i₀ i = n - i
+μ-loop kind service line n i₀ i = n - i
 
 slots-in-requires : tie.Need-slots-in-requires Inv-loop μ-loop
 slots-in-requires c κs = search needs
@@ -50,10 +52,10 @@ returns : tie.Need-returns Inv-loop μ-loop
 returns c =
     let p = c .before .before .before .before .before .before in
     let a = p .before .before .before .args in
-    let r = numerals (drop (p .loop .i + 1) (slotsOf (a .kind))) (drop (p .loop .i + 1) (givenIn (a .line .now))) in
+    let r = numerals (drop (p .loop .i + 1) (slotsOf (a .kind) (a .service))) (drop (p .loop .i + 1) (givenIn (a .line .now))) in
     let e = c .enum-told2 .given .1 in
     e ∙ sym (sym (p .loop .inv .1)
-    ∙ numerals-next (slotsOf (a .kind)) (a .line .now) (p .loop .i) _ _ _ (omega (arith, p .before .slots-in .ensures)) (c .before .before .slot-found .ensures) (c .before .before .before .before .slot-at .ensures) (c .before .before .before .value-at .ensures)
+    ∙ numerals-next (slotsOf (a .kind) (a .service)) (a .line .now) (p .loop .i) _ _ _ (omega (arith, p .before .slots-in .ensures (a .service))) (c .before .before .slot-found .ensures) (c .before .before .before .before .slot-at .ensures) (c .before .before .before .value-at .ensures)
     ∙ ap (λ (x : Finding). orElse x r) e)
 
 add-i : tie.Need-add-i Inv-loop μ-loop
@@ -66,9 +68,9 @@ loop-again : tie.Need-loop-again Inv-loop μ-loop
 loop-again c =
     let p = c .before .before .before .before .before .before in
     let a = p .before .before .before .args in
-    let r = numerals (drop (p .loop .i + 1) (slotsOf (a .kind))) (drop (p .loop .i + 1) (givenIn (a .line .now))) in (
+    let r = numerals (drop (p .loop .i + 1) (slotsOf (a .kind) (a .service))) (drop (p .loop .i + 1) (givenIn (a .line .now))) in (
       omega arith,
-      sym (numerals-next (slotsOf (a .kind)) (a .line .now) (p .loop .i) _ _ _ (omega (arith, p .before .slots-in .ensures)) (c .before .before .slot-found .ensures) (c .before .before .before .before .slot-at .ensures) (c .before .before .before .value-at .ensures)
+      sym (numerals-next (slotsOf (a .kind) (a .service)) (a .line .now) (p .loop .i) _ _ _ (omega (arith, p .before .slots-in .ensures (a .service))) (c .before .before .slot-found .ensures) (c .before .before .before .before .slot-at .ensures) (c .before .before .before .value-at .ensures)
           ∙ ap (λ (x : Finding). orElse x r) (c .enum-told .given .1))
           ∙ p .loop .inv .1,
     )
@@ -77,7 +79,7 @@ returns-2 : tie.Need-returns-2 Inv-loop μ-loop
 returns-2 c =
     let p = c .before in
     let a = p .before .before .before .args in
-    sym (numerals-end (slotsOf (a .kind)) (a .line .now) (p .loop .i) (omega (arith, p .before .slots-in .ensures))) ∙ p .loop .inv .1
+    sym (numerals-end (slotsOf (a .kind) (a .service)) (a .line .now) (p .loop .i) (omega (arith, p .before .slots-in .ensures (a .service)))) ∙ p .loop .inv .1
 
 pub numerals-spec : {M : Type 1} → statement M
 numerals-spec =

@@ -35,6 +35,9 @@ value6 c = value5 (c .before .before .before)
 abbrev value7 : tie.Else7 → List ℕ
 value7 c = value6 (c .before .before .before)
 
+abbrev value8 : tie.Else8 → List ℕ
+value8 c = value7 (c .before .before .before)
+
 -- it is not the code of the test
 not-10 : (c : tie.Else1) → same (value1 c) (text "10") ≡ false
 not-10 c = sym (c .before .is-type .ensures) ∙ c .if1 .left
@@ -51,11 +54,14 @@ not-31 c = sym (c .before .is-type4 .ensures) ∙ c .if4 .left
 not-40 : (c : tie.Else5) → same (value5 c) (text "40") ≡ false
 not-40 c = sym (c .before .is-type5 .ensures) ∙ c .if5 .left
 
-not-49 : (c : tie.Else6) → same (value6 c) (text "49") ≡ false
-not-49 c = sym (c .before .is-type6 .ensures) ∙ c .if6 .left
+not-41 : (c : tie.Else6) → same (value6 c) (text "41") ≡ false
+not-41 c = sym (c .before .is-type6 .ensures) ∙ c .if6 .left
 
-not-50 : (c : tie.Else7) → same (value7 c) (text "50") ≡ false
-not-50 c = sym (c .before .is-type7 .ensures) ∙ c .if7 .left
+not-49 : (c : tie.Else7) → same (value7 c) (text "49") ≡ false
+not-49 c = sym (c .before .is-type7 .ensures) ∙ c .if7 .left
+
+not-50 : (c : tie.Else8) → same (value8 c) (text "50") ≡ false
+not-50 c = sym (c .before .is-type8 .ensures) ∙ c .if8 .left
 
 slice-aggregate-is-type : tie.Need-slice-aggregate-is-type
 slice-aggregate-is-type c = search needs
@@ -153,18 +159,37 @@ returns-7 c =
     let c3 = c4 .before .before .before in
     let c2 = c3 .before .before .before in
     let c1 = c2 .before .before .before in
-    simp (not-10 c1, not-20 c2, not-30 c3, not-31 c4, not-40 c5, not-49 c6, sym (c .before .is-type7 .ensures) ∙ c .if7 .taken)
+    simp (not-10 c1, not-20 c2, not-30 c3, not-31 c4, not-40 c5, not-41 c6, sym (c .before .is-type7 .ensures) ∙ c .if7 .taken)
+
+slice-aggregate-is-type-8 : tie.Need-slice-aggregate-is-type-8
+slice-aggregate-is-type-8 c = search needs
+
+is-type-requires-8 : tie.Need-is-type-requires-8
+is-type-requires-8 c κs = search needs
 
 returns-8 : tie.Need-returns-8
 unfolding typeGiven
 returns-8 c =
-    let c6 = c .before .before .before in
+    let c7 = c .before .before .before in
+    let c6 = c7 .before .before .before in
     let c5 = c6 .before .before .before in
     let c4 = c5 .before .before .before in
     let c3 = c4 .before .before .before in
     let c2 = c3 .before .before .before in
     let c1 = c2 .before .before .before in
-    simp (not-10 c1, not-20 c2, not-30 c3, not-31 c4, not-40 c5, not-49 c6, not-50 c)
+    simp (not-10 c1, not-20 c2, not-30 c3, not-31 c4, not-40 c5, not-41 c6, not-49 c7, sym (c .before .is-type8 .ensures) ∙ c .if8 .taken)
+
+returns-9 : tie.Need-returns-9
+unfolding typeGiven
+returns-9 c =
+    let c7 = c .before .before .before in
+    let c6 = c7 .before .before .before in
+    let c5 = c6 .before .before .before in
+    let c4 = c5 .before .before .before in
+    let c3 = c4 .before .before .before in
+    let c2 = c3 .before .before .before in
+    let c1 = c2 .before .before .before in
+    simp (not-10 c1, not-20 c2, not-30 c3, not-31 c4, not-40 c5, not-41 c6, not-49 c7, not-50 c)
 
 pub type-given-spec : {M : Type 1} → statement M
 type-given-spec =
@@ -191,4 +216,7 @@ type-given-spec =
     slice-aggregate-is-type-7
     is-type-requires-7
     returns-7
-    returns-8)
+    slice-aggregate-is-type-8
+    is-type-requires-8
+    returns-8
+    returns-9)
