@@ -43,6 +43,7 @@ enum {
     PAY_MOST_RECORDS = 200000,   /* of a file */
     PAY_MOST_ASSIGNMENTS = 500,  /* of a file */
     PAY_MOST_BYTES = 16200000,   /* of a file; an output of this length is never too short */
+    PAY_MOST_IN_MESSAGE = 42,    /* records 49 of a transaction, those without a place too */
     PAY_STACK = 32768            /* bytes of stack that a call needs at most */
 };
 
@@ -95,7 +96,8 @@ enum {
     PAY_OUTPUT_TOO_SHORT = 19,      /* the output is too short */
     PAY_SENDERS_DIFFER = 20,        /* the two files have different senders */
     PAY_NO_BOUNDARY = 21,           /* the file cannot be parted there */
-    PAY_TOO_LONG = 22               /* a value is too long for its field */
+    PAY_TOO_LONG = 22,              /* a value is too long for its field */
+    PAY_TOO_MANY_TEXTS = 23         /* the message has more than 42 texts, counting those without a place */
 };
 
 /* ---- the operations */
@@ -134,7 +136,8 @@ void pay_part(uint64_t year, uint64_t month, uint64_t day, const uint8_t *file, 
  *     a rule's own number    at the first field that breaks a rule which looks at the record alone: PAY_BAD_FIXED, where service or type are not listed too,
  *                            PAY_BAD_FORM, PAY_NO_DATE, PAY_BAD_ACCOUNT or PAY_PAST_LIMIT
  *     PAY_OUTPUT_TOO_SHORT   where out has fewer than PAY_RECORD_BYTES
- * What other records or the process day decide is left to pay_close: the order, numbers that count up, what has to agree, dates in time, sums, places, keys.
+ * What other records or the process day decide is left to pay_close: the order, numbers that count up, what has to agree, dates in time, sums, keys,
+ * that no two texts of a message have one place, and that they are at most PAY_MOST_IN_MESSAGE.
  */
 
 /* The start of a file. Places: sender 8, number 7. */
@@ -157,6 +160,7 @@ void pay_make40(uint64_t service, uint64_t type, uint64_t number, const uint8_t 
 void pay_make41(uint64_t service, uint64_t type, uint64_t number, const uint8_t *address1, uint64_t address1_length, const uint8_t *address2, uint64_t address2_length, const uint8_t *country, uint64_t country_length, uint8_t *out, uint64_t out_length, uint64_t answer[PAY_ANSWER]);
 
 /* A piece of a message. Places: service 2, type 2, transaction number 7, line 3, column 1, text 40.
+ * Line, 1 to 21, and column, 1 or 2, place the text in the notification. Line 0 or column 0 gives it no place: it clashes with no other, and the notification leaves it out.
  * Line, column and text are fields 6, 7 and 8 in service 4; in any other they are fields 7, 8 and 9, behind the notification code, which is filled in. */
 void pay_make49(uint64_t service, uint64_t type, uint64_t number, uint64_t line, uint64_t column, const uint8_t *text, uint64_t text_length, uint8_t *out, uint64_t out_length, uint64_t answer[PAY_ANSWER]);
 

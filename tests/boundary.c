@@ -203,6 +203,8 @@ static void try_make(void)
     makes("make a 49", "NY010349000000230012IS                                      00000000000000000000\n");
     pay_make49(4, 3, 2, 1, 2, BYTES("IS"), out, ROOM, answer);
     makes("make a 49 of service 04", "NY04034900000020012IS                                      000000000000000000000\n");
+    pay_make49(4, 3, 2, 0, 2, BYTES("IS"), out, ROOM, answer);
+    makes("make a 49 without a place", "NY04034900000020002IS                                      000000000000000000000\n");
     pay_make50(4, 17, 4, BYTES("12345"), 20000, out, ROOM, answer);
     makes("make a 50", "NY0417500000004                    123450000000000002000000000000000000000000000\n");
 }
@@ -222,10 +224,10 @@ static void try_make_refused(void)
     refuses("make a 40 of type 04 without an area", PAY_BAD_FORM, 0, 0, 9);
     pay_make41(4, 4, 1, BYTES("HAVNEGADE 7"), BYTES(""), BYTES("DK"), out, ROOM, answer);
     refuses("make a 41 of type 04 with a country", PAY_BAD_FORM, 0, 0, 8);
-    pay_make49(1, 3, 2, 0, 2, BYTES("IS"), out, ROOM, answer);
-    refuses("make a 49 without a line", PAY_BAD_FIXED, 0, 0, 7);
-    pay_make49(4, 3, 2, 0, 2, BYTES("IS"), out, ROOM, answer);
-    refuses("make a 49 of service 04 without a line", PAY_BAD_FIXED, 0, 0, 6);
+    pay_make49(1, 3, 2, 22, 0, BYTES("IS"), out, ROOM, answer);
+    refuses("make a 49 on line 22", PAY_BAD_FIXED, 0, 0, 7);
+    pay_make49(4, 3, 2, 22, 0, BYTES("IS"), out, ROOM, answer);
+    refuses("make a 49 of service 04 on line 22", PAY_BAD_FIXED, 0, 0, 6);
     pay_make50(4, 17, 4, BYTES("12345"), 20000, out, PAY_RECORD_BYTES - 1, answer);
     refuses("make a 50 with too little room", PAY_OUTPUT_TOO_SHORT, 0, 0, 0);
 }

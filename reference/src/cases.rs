@@ -2,7 +2,7 @@
 //! seed and index make the same case on every machine.
 
 use crate::answer::{self, Answer};
-use crate::damage::damage;
+use crate::damage::{crowd, damage};
 use crate::make::{Values, make, make_draft};
 use crate::random::Random;
 use crate::records::{self, closed, count, file_of, long_file};
@@ -257,6 +257,7 @@ fn plan(random: &mut Random, day: Day) -> Plan {
         records: None,
         extras: random.pick(&[0, 40, 100]),
         notices: random.pick(&[0, 50, 100, 100]),
+        unplaced: random.pick(&[0, 0, 30, 100]),
         extremes: random.percent(50),
     }
 }
@@ -289,6 +290,13 @@ fn edge_of_window(random: &mut Random, mut draft: Vec<u8>, (year, month, day): D
     draft
 }
 
+/// A draft with messages, one of which is full or has a piece too many.
+fn crowded(random: &mut Random, plan: Plan) -> Vec<u8> {
+    let mut draft = sound_draft(Plan { extras: 100, notices: 100, ..plan });
+    crowd(random, &mut draft);
+    draft
+}
+
 /// A file that is sound, or damaged before or after its ends were written.
 fn file(random: &mut Random, day: Day, sound: u64) -> Vec<u8> {
     let plan = plan(random, day);
@@ -300,8 +308,9 @@ fn file_by(random: &mut Random, plan: Plan, sound: u64) -> Vec<u8> {
     if random.percent(sound) {
         return closed(&draft);
     }
-    match random.below(22) {
+    match random.below(25) {
         20 | 21 => closed(&edge_of_window(random, draft, plan.day)),
+        22..=24 => closed(&crowded(random, plan)),
         0..=8 => closed(&damaged(random, draft)),
         9..=16 => damaged(random, closed(&draft)),
         17 => {
@@ -327,9 +336,11 @@ fn wrong_ends(random: &mut Random, mut file: Vec<u8>) -> Vec<u8> {
 
 /// A draft that is sound, or damaged, or has an 88 or 89 in it.
 fn draft(random: &mut Random, day: Day) -> Vec<u8> {
-    let draft = sound_draft(plan(random, day));
-    match random.below(22) {
+    let plan = plan(random, day);
+    let draft = sound_draft(plan);
+    match random.below(25) {
         20 | 21 => edge_of_window(random, draft, day),
+        22..=24 => crowded(random, plan),
         0..=5 => draft,
         6..=16 => damaged(random, draft),
         17 => {

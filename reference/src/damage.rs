@@ -3,6 +3,7 @@
 use crate::RECORD;
 use crate::random::Random;
 use crate::records::kind;
+use crate::sample::place;
 
 /// Bytes that are likely to matter.
 const BYTES: &[u8] = b"0123456789 NYx-\n\r\t\x7f\x80\x9f\xa0\xff\x00\x1f/:";
@@ -239,10 +240,10 @@ fn damage_meaning(random: &mut Random, data: &mut [u8], record: usize) {
             }
         },
         b"49" => {
-            // Line and column, by the layout of the service.
-            let from = if data[record + 2..record + 4] == *b"04" { 16 } else { 17 };
-            let place = format!("{:03}{}", random.below(24), random.below(4));
-            set(data, record, from, &place);
+            let from = line_of(&data[record..]);
+            let any = random.below(24);
+            let line = random.pick(&[any, any, 0, 21, 22]);
+            set(data, record, from, &format!("{line:03}{}", random.below(4)));
             let neighbour = record.saturating_sub(RECORD);
             if random.percent(60) && kind(&data[neighbour..]) == *b"49" {
                 data.copy_within(neighbour + from - 1..neighbour + from + 3, record + from - 1);
@@ -314,6 +315,35 @@ pub fn damage(random: &mut Random, data: &mut Vec<u8>) {
             data.extend(random.digits(length).bytes());
         }
     }
+}
+
+/// Where the line of a 49 begins, by the layout of its service. The column is behind it.
+fn line_of(record: &[u8]) -> usize {
+    if record[2..4] == *b"04" { 16 } else { 17 }
+}
+
+/// Makes a message, where there is one, of about as many pieces as it may have: all placed,
+/// some, or none. The last may be spoiled too.
+pub fn crowd(random: &mut Random, data: &mut Vec<u8>) {
+    let is_piece = |record: &&[u8]| kind(record) == *b"49";
+    let records: Vec<&[u8]> = data.chunks_exact(RECORD).collect();
+    let begins = |at: &usize| is_piece(&records[*at]) && !is_piece(&records[at - 1]);
+    let messages: Vec<usize> = (1..records.len()).filter(begins).collect();
+    if messages.is_empty() {
+        return;
+    }
+    let from = random.pick(&messages);
+    let to = from + records[from..].iter().take_while(|&record| is_piece(record)).count();
+    let pieces = random.pick(&[41, 42, 42, 43, 43, 43, 43, 43, 43, 44]);
+    let (first, unplaced) = (random.below(42), random.pick(&[0, 20, 50, 80, 100]));
+    let mut message = records[from].repeat(pieces);
+    for (piece, at) in message.chunks_exact_mut(RECORD).zip((first..).step_by(5)) {
+        set(piece, 0, line_of(piece), &place(random, at, unplaced));
+    }
+    if random.percent(20) {
+        spoil(random, &mut message[(pieces - 1) * RECORD..]);
+    }
+    data.splice(from * RECORD..to * RECORD, message);
 }
 
 /// Changes the type of a whole transaction, so that what must repeat it does.

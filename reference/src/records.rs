@@ -238,6 +238,28 @@ pub fn notified() -> Vec<u8> {
     closed(&bytes(&lines))
 }
 
+/// The 42 places of a message, each a line and a column.
+pub fn every_place() -> Vec<(u32, u32)> {
+    (1..=21).flat_map(|line| [(line, 1), (line, 2)]).collect()
+}
+
+/// A draft with a transaction for each message, which has a 49 of each of these lines and columns.
+/// Service 04 has a 40 before them, a money order a 41 too.
+pub fn messages(service: &str, code: &str, messages: &[Vec<(u32, u32)>]) -> Vec<u8> {
+    let mut lines = vec![r10(), r20(service, 1, 1)];
+    for (number, message) in (1..).zip(messages) {
+        lines.push(r30(service, code, number, "011125", 100, ""));
+        lines.push(r31(service, code, number));
+        lines.extend((service == "04").then(|| r40(code, number)));
+        lines.extend((code == "04").then(|| r41(code, number)));
+        lines.extend(message.iter().map(|&(line, column)| match service {
+            "04" => r49_04(code, number, line, column),
+            _ => r49(number, line, column),
+        }));
+    }
+    bytes(&lines)
+}
+
 /// The bytes with one field, from position to position, set to a text.
 pub fn with(data: &[u8], record: usize, from: usize, text: &str) -> Vec<u8> {
     with_bytes(data, record, from, text.as_bytes())

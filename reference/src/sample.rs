@@ -24,6 +24,8 @@ pub struct Plan {
     pub extras: u64,
     /// Of a hundred records 40, how many have a 41, records 49 or both behind them.
     pub notices: u64,
+    /// Of a hundred records 49, how many have no place.
+    pub unplaced: u64,
     /// Whether values at the ends of what is allowed come up often.
     pub extremes: bool,
 }
@@ -38,6 +40,7 @@ impl Plan {
         records: Some(200_000),
         extras: 17,
         notices: 0,
+        unplaced: 0,
         extremes: false,
     };
 
@@ -76,6 +79,17 @@ pub fn ddmmyy((year, month, day): Day) -> String {
 
 fn date_number((year, month, day): Day) -> u64 {
     year * 10_000 + month * 100 + day
+}
+
+/// Line and column of one of the 42 places, counted round and round; of a hundred, so many lack
+/// the line, the column or both.
+pub fn place(random: &mut Random, place: u64, unplaced: u64) -> String {
+    let (line, column) = (place / 2 % 21 + 1, place % 2 + 1);
+    let (line, column) = match unplaced > 0 && random.percent(unplaced) {
+        true => random.pick(&[(0, column), (line, 0), (0, 0)]),
+        false => (line, column),
+    };
+    format!("{line:03}{column}")
 }
 
 const TYPES_04: &[&str] =
@@ -292,15 +306,14 @@ impl Maker {
     }
 
     fn message(&mut self, code: &str, number: &str) {
-        let places = if self.extreme(3) { 42 } else { self.random.below(4) };
+        let pieces = if self.extreme(3) { 42 } else { self.random.below(4) };
         let first = self.random.below(42);
-        for i in 0..places {
-            let place = (first + 5 * i) % 42;
-            let (line, column) = (place / 2 + 1, place % 2 + 1);
-            // Service 01 has a notification code before the line.
-            let notification = if self.service == "01" { "3" } else { "" };
-            let head = format!("NY{}{code}49{number}{notification}", self.service);
-            let mut line = format!("{head}{line:03}{column}").into_bytes();
+        // Service 01 has a notification code before the line.
+        let notification = if self.service == "01" { "3" } else { "" };
+        for i in 0..pieces {
+            let place = place(&mut self.random, first + 5 * i, self.plan.unplaced);
+            let head = format!("NY{}{code}49{number}{notification}{place}", self.service);
+            let mut line = head.into_bytes();
             line.extend(self.text(40));
             line.resize(RECORD - 1, b'0');
             self.line(&line);

@@ -117,8 +117,8 @@ impl Till<'_> {
                 (4, 16) => random.pick(&[1, 80_000, MOST]),
                 _ => random.pick(&[0, 1, 80_000, 10_000_000_000, 10_000_000_000_000, MOST]),
             },
-            Line => random.pick(&[1, 2, 9, 10, 20, 21]),
-            Column => random.pick(&[1, 2]),
+            Line => random.pick(&[0, 0, 1, 2, 9, 10, 20, 21]),
+            Column => random.pick(&[0, 1, 2]),
         }
     }
 

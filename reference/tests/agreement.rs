@@ -21,6 +21,7 @@ fn plan(seed: u64) -> Plan {
         records: None,
         extras: 50,
         notices: 50,
+        unplaced: 30,
         extremes: true,
     }
 }
@@ -50,7 +51,7 @@ fn sound_files() {
 #[test]
 fn damaged_files() {
     let mut random = Random(42);
-    let mut seen = [0u32; 22];
+    let mut seen = [0u32; 24];
     for seed in 0..3_000 {
         let file = file(plan(seed));
         let draft = draft(&file);
@@ -124,7 +125,7 @@ fn places(operation: Operation, what: u64) -> &'static [Place] {
 /// does not apply, and every refusal comes up.
 #[test]
 fn cases_of_every_operation() {
-    let mut seen = [0u32; 23];
+    let mut seen = [0u32; 24];
     for index in 0..40_000 {
         let case = case(1, index, &Operation::ALL);
         let [plain, fast] = [Variant::PLAIN, Variant::FAST].map(|variant| {
@@ -150,19 +151,21 @@ fn cases_of_every_operation() {
     assert!(seen.iter().all(|&count| count > 0), "{seen:?}");
 }
 
-/// Numbers and fields of the refusals of a 41, of a 49 of service 04 (12 at field 2 among those
-/// of service 01), and of making them.
+/// Numbers and fields of the refusals of a 41, of a 49 (12 at field 2 among those of the other
+/// service), and of making a 41 and a 49 of service 04.
 type Refusals = &'static [(u64, u64)];
 #[rustfmt::skip]
 const OF_41: Refusals = &[(4, 0), (5, 4), (7, 1), (12, 2), (12, 3), (8, 5), (12, 5), (8, 6), (8, 7), (8, 8), (7, 9)];
 #[rustfmt::skip]
-const OF_49: Refusals = &[(4, 0), (5, 4), (7, 1), (12, 2), (12, 3), (8, 5), (12, 5), (7, 6), (7, 7), (17, 7), (8, 8), (7, 9)];
+const OF_49_01: Refusals = &[(4, 0), (5, 4), (7, 1), (12, 2), (12, 3), (8, 5), (12, 5), (7, 6), (7, 7), (7, 8), (17, 7), (23, 7), (8, 9), (7, 10)];
+#[rustfmt::skip]
+const OF_49_04: Refusals = &[(4, 0), (5, 4), (7, 1), (12, 2), (12, 3), (8, 5), (12, 5), (7, 6), (7, 7), (17, 7), (23, 7), (8, 8), (7, 9)];
 #[rustfmt::skip]
 const OF_MAKE41: Refusals = &[(22, 2), (22, 3), (22, 5), (22, 6), (22, 7), (22, 8), (7, 2), (7, 3), (8, 6), (8, 7), (8, 8), (19, 0)];
 #[rustfmt::skip]
 const OF_MAKE49: Refusals = &[(22, 3), (22, 5), (22, 6), (22, 7), (22, 8), (7, 3), (7, 6), (7, 7), (8, 8), (19, 0)];
 
-/// The cases of the comparison come to every refusal of a 41 and of a 49 in service 04.
+/// The cases of the comparison come to every refusal of a 41 and of a 49.
 #[test]
 fn cases_with_second_addresses_and_messages() {
     let mut seen = HashSet::new();
@@ -180,13 +183,14 @@ fn cases_with_second_addresses_and_messages() {
             (Operation::MakeDraft, _) | (_, None) => continue,
             (_, Some(record)) => match (&record[2..4], &record[6..8]) {
                 (_, b"41") => OF_41,
-                (b"04", b"49") => OF_49,
+                (b"01", b"49") => OF_49_01,
+                (b"04", b"49") => OF_49_04,
                 _ => continue,
             },
         };
         seen.insert((wanted, refusal));
     }
-    for wanted in [OF_41, OF_49, OF_MAKE41, OF_MAKE49] {
+    for wanted in [OF_41, OF_49_01, OF_49_04, OF_MAKE41, OF_MAKE49] {
         for &refusal in wanted {
             assert!(seen.contains(&(wanted, refusal)), "{refusal:?} of {wanted:?}");
         }

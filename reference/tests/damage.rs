@@ -103,7 +103,7 @@ fn field_faults() -> Vec<(usize, u8, usize, usize, Vec<u8>, u8)> {
         faults.push((record, 6, 16, 16, any(|byte| byte == b'3'), 7));
         faults.push((record, 7, 17, 17, zero.clone(), 7));
         faults.push((record, 7, 18, 19, digit.clone(), 7));
-        faults.push((record, 8, 20, 20, any(|byte| b"12".contains(&byte)), 7));
+        faults.push((record, 8, 20, 20, any(|byte| b"012".contains(&byte)), 7));
         faults.push((record, 9, 21, 60, text.clone(), 8));
         faults.push((record, 10, 61, 80, zero.clone(), 7));
     }
@@ -433,24 +433,27 @@ fn addresses() {
 
 #[test]
 fn message_places() {
-    let file = |places: &[(u32, u32)]| {
-        let mut lines = vec![r10(), r20("01", 1, 1)];
-        for number in 1..=2 {
-            lines.push(r30("01", "03", number, "011125", 1, ""));
-            lines.push(r31("01", "03", number));
-            lines.extend(places.iter().map(|&(line, column)| r49(number, line, column)));
-        }
-        closed(&bytes(&lines))
-    };
-    let all: Vec<(u32, u32)> = (1..=21).flat_map(|line| [(line, 1), (line, 2)]).collect();
+    let file =
+        |places: &[(u32, u32)]| closed(&messages("01", "03", &[places.to_vec(), places.to_vec()]));
+    let all = every_place();
     assert!(check(&file(&all)).is_ok());
     for i in 0..42 {
         let mut again = all.clone();
         again.push(all[i]);
         assert_eq!(check(&file(&again)), Err(refused(17, 47, 7)));
     }
-    for (line, column, field) in [(0, 1, 7), (22, 1, 7), (999, 2, 7), (1, 0, 8), (1, 3, 8)] {
+    for (line, column, field) in [(22, 1, 7), (999, 2, 7), (1, 3, 8), (1, 9, 8)] {
         assert_eq!(check(&file(&[(line, column)])), Err(refused(7, 5, field)));
+    }
+    // The notification code before the line.
+    let one = file(&[(1, 1)]);
+    for (code, line) in (0..=9).flat_map(|code| (0..=9).map(move |line| (code, line))) {
+        let wanted = match (code, line) {
+            (3, 0) => check(&one),
+            (3, _) => Err(refused(7, 5, 7)),
+            _ => Err(refused(7, 5, 6)),
+        };
+        assert_eq!(check(&with(&one, 5, 16, &format!("{code}{line}011"))), wanted);
     }
     // The place before the text, but after the column.
     let twice = file(&[(1, 1), (1, 1)]);

@@ -136,6 +136,11 @@ fn each_record_type() {
     assert_eq!(m49((1, 3), 21, 2, "TEKST"), Ok(r49(1, 21, 2)));
     assert_eq!(m49((4, 3), 21, 2, "TEKST"), Ok(r49_04("03", 1, 21, 2)));
     assert_eq!(m49((4, 4), 1, 1, "TEKST"), Ok(r49_04("04", 1, 1, 1)));
+    for (line, column) in [(0, 0), (0, 2), (21, 0)] {
+        let made = |head| m49(head, line.into(), column.into(), "TEKST");
+        assert_eq!(made((1, 3)), Ok(r49(1, line, column)));
+        assert_eq!(made((4, 3)), Ok(r49_04("03", 1, line, column)));
+    }
     assert_eq!(m50((4, 17), "1234567", 90), Ok(r50("17", 1, 90)));
 }
 
@@ -322,16 +327,15 @@ fn own_rules_of_31_to_50() {
     assert_eq!(m41((1, 4), ["", "", "SE"]), Err((7, 3)));
     // Lines and columns, by the layout of the service.
     for (head, field) in [((1, 3), 7), ((4, 3), 6), ((4, 66), 6)] {
-        for line in 0..1000 {
-            let expected = if (1..=21).contains(&line) { Ok(()) } else { Err((7, field)) };
-            assert_eq!(m49(head, line, 2, "").map(drop), expected);
-            assert_eq!(m49(head, line, 0, "\0").map(drop), expected.and(Err((7, field + 1))));
+        for (line, column) in (0..1000).flat_map(|line| (0..10).map(move |column| (line, column))) {
+            let expected = match (line, column) {
+                (22.., _) => Err((7, field)),
+                (_, 3..) => Err((7, field + 1)),
+                _ => Ok(()),
+            };
+            assert_eq!(m49(head, line, column, "").map(drop), expected);
+            assert_eq!(m49(head, line, column, "\0").map(drop), expected.and(Err((8, field + 2))));
         }
-        for column in 0..10 {
-            let expected = if (1..=2).contains(&column) { Ok(()) } else { Err((7, field + 1)) };
-            assert_eq!(m49(head, 1, column, "").map(drop), expected);
-        }
-        assert_eq!(m49(head, 21, 2, "\0").map(drop), Err((8, field + 2)));
     }
     assert_eq!(m49((4, 2), 7, 1, "A").unwrap()[15..], format!("0071{:<40}{}", "A", "0".repeat(21)));
     assert_eq!(
@@ -522,6 +526,7 @@ fn sound_drafts_are_made_of_their_values() {
             records: None,
             extras: 50,
             notices: 50,
+            unplaced: 30,
             extremes: true,
         };
         let mut draft = sound_draft(plan);
@@ -539,6 +544,21 @@ fn sound_drafts_are_made_of_their_values() {
             assert!(out[before..].iter().all(|&byte| byte == FILLER));
         }
         assert!(close(&draft, 2 * draft.len() + RECORD).0.is_ok());
+    }
+}
+
+/// A place that is taken and a piece too many are closing's.
+#[test]
+fn messages_are_made_piece_by_piece() {
+    for (service, code, first) in [("01", "03", 5), ("04", "03", 6), ("04", "04", 7)] {
+        for (message, number) in [([(5, 2); 43], 17), ([(0, 2); 43], 23), ([(0, 0); 43], 23)] {
+            let draft = messages(service, code, &[message.to_vec()]);
+            let (drafting, out) = drafted(till::plain_lines(&draft), draft.len());
+            assert_eq!(drafting, Ok(draft.len() / RECORD));
+            assert_eq!(out, draft);
+            let record = first + if number == 17 { 1 } else { 42 };
+            assert_eq!(close(&out, 2 * out.len()).0, Err(refused(number, record, 7)));
+        }
     }
 }
 

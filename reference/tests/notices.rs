@@ -3,7 +3,7 @@
 mod common;
 
 use common::*;
-use reference::{RECORD, Verdict};
+use reference::RECORD;
 
 /// A transaction of this service and type with these records behind its 31.
 fn transaction(service: &str, code: &str, number: u32, behind: &[String]) -> Vec<String> {
@@ -15,25 +15,6 @@ fn transaction(service: &str, code: &str, number: u32, behind: &[String]) -> Vec
 fn draft_of(service: &str, transactions: &[Vec<String>]) -> Vec<u8> {
     let start = vec![r10(), r20(service, 1, 1)];
     bytes(&[start, transactions.concat()].concat())
-}
-
-/// What checking says of a draft with its end records, and closing of the draft: the same, since
-/// a draft of one assignment has the same numbers of records.
-fn judged(draft: &[u8]) -> Verdict {
-    let file = closed(draft);
-    let verdict = check(&file);
-    let (closing, out) = close(draft, file.len());
-    assert_eq!(closing, verdict);
-    assert!(verdict.is_err() || out == file);
-    verdict
-}
-
-/// The number and the field of a refusal, which is of this record.
-fn fault(draft: &[u8], record: usize) -> Option<(u8, u8)> {
-    judged(draft).err().map(|refused| {
-        assert_eq!(refused.record as usize, record);
-        (refused.number, refused.field)
-    })
 }
 
 #[test]
@@ -163,7 +144,7 @@ fn fields() -> Vec<Field> {
         fields.extend([
             (record, 6, 16, 16, is_zero, 7),
             (record, 6, 17, 18, is_digit, 7),
-            (record, 7, 19, 19, (|byte| b"12".contains(&byte)) as fn(u8) -> bool, 7),
+            (record, 7, 19, 19, (|byte| b"012".contains(&byte)) as fn(u8) -> bool, 7),
             (record, 8, 20, 59, is_text, 8),
             (record, 9, 60, 80, is_zero, 7),
         ]);
@@ -246,7 +227,7 @@ fn message(code: &str, has_second: bool, places: &[(u32, u32)]) -> Vec<u8> {
 
 #[test]
 fn places() {
-    let all: Vec<(u32, u32)> = (1..=21).flat_map(|line| [(line, 1), (line, 2)]).collect();
+    let all = every_place();
     for (code, has_second) in [("03", false), ("03", true), ("04", false), ("04", true)] {
         let of = |places: &[(u32, u32)]| message(code, has_second, places);
         let first = 6 + usize::from(has_second);
@@ -260,10 +241,10 @@ fn places() {
             let again = [&all[..], &[place]].concat();
             assert_eq!(fault(&of(&again), first + 42), Some((17, 7)));
         }
-        for line in (0..=999).filter(|line| !(1..=21).contains(line)) {
+        for line in 22..=999 {
             assert_eq!(fault(&of(&[(line, 1)]), first), Some((7, 6)));
         }
-        for column in [0, 3, 4, 5, 6, 7, 8, 9] {
+        for column in 3..=9 {
             assert_eq!(fault(&of(&[(1, column)]), first), Some((7, 7)));
         }
         // Blanks are no line and no column.

@@ -27,4 +27,7 @@ pub mod OneAnswer
 pub mod Making
 pub mod Slices
 pub mod Tells
+pub mod Transactions
+pub mod FortyTwo
 pub mod Messages
+pub mod MessageFaults

@@ -31,11 +31,13 @@ use Rattle.rules.specs.Codes.{kindFor, kindOf, numberOfKind, serviceCode}
 use Rattle.rules.specs.Fields.{numberIn, bytesIn, messageOf, messageBy}
 use Rattle.rules.specs.Layouts.{repeats, notification49, message49, fields49, tableFor, rows}
 use Rattle.rules.specs.Growth.{nothingYet}
+use Rattle.rules.specs.Messages.{noPlaces}
 use Rattle.rules.specs.Refusals.{refusal}
 use Rattle.rules.specs.declared.Assignment.{Assignment}
 use Rattle.rules.specs.declared.Kind.{Kind}
 use Rattle.rules.specs.declared.Kind.the-variants.{R10, R20, R30, R31, R40, R41, R49, R50, R88, R89, Other}
 use Rattle.rules.specs.declared.Mode.{Mode}
+use Rattle.rules.specs.declared.Places.{Places}
 use Rattle.rules.specs.declared.Refusal.{Refusal}
 use Rattle.operations.specs.Closing.{bytesOf}
 use Rattle.operations.specs.Making.{Put, recordFrom, tooLong, notMade, onSound, judged, makeOf, lentRecord, madeBytes, head, number, notification, message, codeBy}
@@ -305,9 +307,9 @@ own-joined r (must t n k ∷ ws) vs = ap (λ (l : List Row). listedFor r k ++ l)
 own-joined r (file t n k ∷ ws) vs = ap (λ (l : List Row). listedFor r k ++ l) (own-joined r ws vs) ∙ sym (append-assoc (listedFor r k) (ownRows r ws) (ownRows r vs))
 
 -- a 49 by itself has no place to hold its own against
-own49 : (places : ℕ) (r : List ℕ) → ownRows r (fields49 places r) ≡ ownRows r (notification49 (serviceCode r)) ++ ownRows r (message49 (messageOf (serviceCode r)) 0 r)
+own49 : (ps : Places) (r : List ℕ) → ownRows r (fields49 ps r) ≡ ownRows r (notification49 (serviceCode r)) ++ ownRows r (message49 (messageOf (serviceCode r)) noPlaces r)
 unfolding ownRows
-own49 places r = own-joined r (notification49 (serviceCode r)) (message49 (messageOf (serviceCode r)) places r)
+own49 ps r = own-joined r (notification49 (serviceCode r)) (message49 (messageOf (serviceCode r)) ps r)
 
 -- a table's own rules are the same whatever the process day and the assignment
 own-anywhere : (k : Kind) (w : Window) (a : Assignment) (r : List ℕ) → ownTable k r ≡ ownRows r (tableFor k w a r)
@@ -319,8 +321,8 @@ own-anywhere R31 w a r = refl
 own-anywhere R40 w a r = refl
 own-anywhere R41 w a r = refl
 own-anywhere R49 w a r =
-    own-joined r (repeats (nothingYet Other) r) (fields49 0 r)
-    ∙ ap (λ (l : List Row). ownRows r (repeats a r) ++ l) (own49 0 r ∙ sym (own49 (a .places) r))
+    own-joined r (repeats (nothingYet Other) r) (fields49 noPlaces r)
+    ∙ ap (λ (l : List Row). ownRows r (repeats a r) ++ l) (own49 noPlaces r ∙ sym (own49 (a .places) r))
     ∙ sym (own-joined r (repeats a r) (fields49 (a .places) r))
 own-anywhere R50 w a r = refl
 own-anywhere R88 w a r = refl

@@ -6,8 +6,8 @@ use mathlib.Core.Logic.{_↔_}
 use mathlib.Core.List.{List}
 use mathlib.Core.Bool.{Bool, true, false}
 use native.Mathlib.Omega.{arith}
-use borrow.Author.Tests.{leb-true}
-use lib.Dec.{leb, eqb}
+use borrow.Author.Tests.{leb-true, ltb-true}
+use lib.Dec.{ltb, eqb}
 use lib.ListN.{length}
 use Rattle.fields.specs.Bytes.{every, isDigit, Inside}
 use Rattle.fields.specs.Numbers.{Number}
@@ -19,7 +19,7 @@ use Rattle.layout.specs.Rows.{AllHold}
 use Rattle.rules.specs.Codes.{keyIn, serviceCode}
 use Rattle.rules.specs.Fields.{Field, bytesIn, numberIn, agreementField, assignmentField, messageOf, messageBy}
 use Rattle.rules.specs.Layouts.{record20, record49, notification49, message49}
-use Rattle.rules.specs.Messages.{placeAt}
+use Rattle.rules.specs.Messages.{placeAt, hasPlace}
 use Rattle.rules.specs.Payments.{isLine, isColumn}
 use Rattle.rules.specs.declared.Assignment.{Assignment}
 use Rattle.laws.specs.Tells.{Keyed, Placed, Agree}
@@ -66,8 +66,9 @@ module _ (service : ℕ) (r : List ℕ) (p : Placed service r) where
   column-is : (every isDigit (bytesIn (messageOf service .column) r) ≡ true) × (1 ≤ numberIn (messageOf service .column) r) × (numberIn (messageOf service .column) r ≤ 2)
   unfolding isColumn
   column-is =
-      let b = and-right (every isDigit (bytesIn (messageOf service .column) r)) _ (p .column) in
-      (and-left _ _ (p .column), leb-true 1 _ (and-left (leb 1 (numberIn (messageOf service .column) r)) _ b), leb-true _ 2 (and-right (leb 1 (numberIn (messageOf service .column) r)) _ b))
+      let line = ltb 0 (numberIn (messageOf service .line) r) in
+      let column = numberIn (messageOf service .column) r in
+      (and-left _ _ (p .column), ltb-true 0 column (and-right line (ltb 0 column) (p .placed)), leb-true column 2 (and-right (every isDigit (bytesIn (messageOf service .column) r)) _ (p .column)))
 
   -- both stand inside the record
   inside : Inside (messageOf service .line .from) (messageOf service .line .to) r × Inside (messageOf service .column .from) (messageOf service .column .to) r
@@ -102,9 +103,9 @@ module _ (f : Totals) (ks r : List ℕ) (a : Assignment) (z : length r ≡ 81) w
   unfolding AllHold
   keyed-20 h = record { sized = z; agreement = h .1 .1 .1 .1 .1 .0; assignment = h .1 .1 .1 .1 .1 .1 .0 }
 
-  -- a record 49 that meets its rules has a sound place, in either service
-  pub placed-49 : AllHold f ks r (record49 a r) → Placed (serviceCode r) r
+  -- a record 49 that meets its rules and has a place has a sound one, in either service
+  pub placed-49 : AllHold f ks r (record49 a r) → hasPlace r ≡ true → Placed (serviceCode r) r
   unfolding AllHold
-  placed-49 h =
+  placed-49 h e =
       let m = hold-behind f ks r (notification49 (serviceCode r)) (message49 (messageOf (serviceCode r)) (a .places) r) (h .1 .1 .1 .1 .1) in
-      record { sized = z; line = m .0; column = m .1 .0 }
+      record { sized = z; placed = e; line = m .0; column = m .1 .0 }

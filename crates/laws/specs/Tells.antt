@@ -8,6 +8,7 @@ use lib.ListN.{length}
 use Rattle.fields.specs.Bytes.{every, isDigit}
 use Rattle.limits.specs.Limits.{recordBytes}
 use Rattle.rules.specs.Fields.{Field, bytesIn, numberIn, agreementField, assignmentField, messageOf}
+use Rattle.rules.specs.Messages.{hasPlaceAt}
 use Rattle.rules.specs.Payments.{isLine, isColumn}
 
 -- a record whose agreement and assignment number are Digits
@@ -16,9 +17,10 @@ pub record Keyed (r : List ℕ) : Type 0 where
   pub agreement : every isDigit (bytesIn agreementField r) ≡ true
   pub assignment : every isDigit (bytesIn assignmentField r) ≡ true
 
--- a record whose line and column are sound, where the service of this code has them
+-- a record whose line and column are sound and a place, where the service of this code has them
 pub record Placed (service : ℕ) (r : List ℕ) : Type 0 where
   pub sized : length r ≡ recordBytes
+  pub placed : hasPlaceAt (messageOf service) r ≡ true
   pub line : isLine (bytesIn (messageOf service .line) r) ≡ true
   pub column : isColumn (bytesIn (messageOf service .column) r) ≡ true
 

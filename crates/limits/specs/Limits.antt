@@ -26,3 +26,7 @@ mostOfService04 = 9_999_999_999_999
 
 abbrev pub mostOfAll : ℕ
 mostOfAll = 99_999_999_999_999_999
+
+-- a message: the places taken and the records without a place together (document 02, No. 3)
+abbrev pub mostInMessage : ℕ
+mostInMessage = 42

@@ -16,3 +16,6 @@ pub const MOST_OF_TYPE_04: u64 = 9_999_999_999;
 pub const MOST_OF_SERVICE_04: u64 = 9_999_999_999_999;
 
 pub const MOST_OF_ALL: u64 = 99_999_999_999_999_999;
+
+// A message: the places taken and the records without a place together.
+pub const MOST_IN_MESSAGE: u64 = 42;

@@ -23,6 +23,7 @@ use field_digits::Digits;
 use figures::totals::Totals;
 use layout::Finding;
 use rules::Kind;
+use rules::Places;
 
 // Fields 1 and 2: NY, and one of the two services.
 fn service(r: &[u8]) -> Finding
@@ -238,7 +239,7 @@ pub fn own49(r: &[u8]) -> Finding
     requires { ⌜ length (now r) ≡ recordBytes ⌝ }
     ensures { λ x. ⌜ ((f : Totals) (ks : List ℕ) → x ≡ firstFault f ks (now (r .entry)) (ownTable Kind.R49 (now (r .entry)))) ⌝ }
 {
-    let placed = record_49::own_fields(r, 0);
+    let placed = record_49::own_fields(r, Places::none());
     let finding = placed.finding;
     heading(r).or_else(finding)
 }

@@ -1,18 +1,17 @@
--- A number from 1 to a bound, read from digits: what the reader's tests say of it, what its answers say, and that lines and columns are such numbers.
+-- A number up to a bound, read from digits: what the reader's tests say of it, what its answers say, and that lines and columns are such numbers.
 -- Assumes nothing.
-use Prim.Native.Nat.{ℕ, _≤_}
+use Prim.Native.Nat.{ℕ, _≤_, _<_}
 use mathlib.Core.Path.{_≡_, refl, sym, _∙_, ap}
 use mathlib.Core.List.{List}
-use mathlib.Core.Bool.{Bool, true, false, _&&_}
+use mathlib.Core.Bool.{Bool, true, false}
 use native.Mathlib.Omega.{arith}
-use borrow.Author.Tests.{leb-true}
+use borrow.Author.Tests.{leb-true, le-leb, lt-leb}
 use lib.Dec.{leb}
 use Rattle.fields.specs.Bytes.{every, isDigit}
 use Rattle.fields.specs.Numbers.{value}
 use Rattle.fields.proofs.Tests.{and-right}
 use Rattle.rules.specs.Payments.{isLine, isColumn}
 use Rattle.record_49.specs.Bounds.{isUpTo, upTo}
-use Rattle.record_49.specs.declared.Bounded.{Bounded}
 use Rattle.record_49.specs.declared.Bounded.the-variants.{InBounds, OutOfBounds}
 
 module _ (most : ℕ) (s : List ℕ) where
@@ -30,19 +29,19 @@ module _ (most : ℕ) (s : List ℕ) where
   no-digits h = sym (up-to-no (rw h))
 
   module _ (d : every isDigit s ≡ true) (n : ℕ) (e : value s ≡ n) where
-    tested : isUpTo most s ≡ leb 1 n && leb n most
+    tested : isUpTo most s ≡ leb n most
     unfolding isUpTo
     tested = simp (d, e)
 
-    pub out-of-bounds : leb 1 n && leb n most ≡ false → OutOfBounds ≡ upTo most s
-    out-of-bounds h = sym (up-to-no (tested ∙ h))
+    pub out-of-bounds : most < n → OutOfBounds ≡ upTo most s
+    out-of-bounds h = sym (up-to-no (tested ∙ lt-leb n most h))
 
-    pub in-bounds : leb 1 n && leb n most ≡ true → InBounds n ≡ upTo most s
-    in-bounds h = ap InBounds (sym e) ∙ sym (up-to-yes (tested ∙ h))
+    pub in-bounds : n ≤ most → InBounds n ≡ upTo most s
+    in-bounds h = ap InBounds (sym e) ∙ sym (up-to-yes (tested ∙ le-leb n most h))
 
   high : isUpTo most s ≡ true → value s ≤ most
   unfolding isUpTo
-  high h = leb-true (value s) most (and-right (leb 1 (value s)) (leb (value s) most) (and-right (every isDigit s) (leb 1 (value s) && leb (value s) most) h))
+  high h = leb-true (value s) most (and-right (every isDigit s) (leb (value s) most) h)
 
   -- what an answer of the reader says of the field
   pub bounds-fail : upTo most s ≡ OutOfBounds → isUpTo most s ≡ false

@@ -1,4 +1,4 @@
--- Document 01, "Layouts", record 49: a number within bounds, as lines and columns are.
+-- Document 01, "Layouts", record 49: a number up to a bound, as lines and columns are.
 -- Assumes nothing.
 use Prim.Native.Nat.{ℕ}
 use mathlib.Core.List.{List}
@@ -10,9 +10,9 @@ use Rattle.fields.specs.Numbers.{value}
 use Rattle.record_49.specs.declared.Bounded.{Bounded}
 use Rattle.record_49.specs.declared.Bounded.the-variants.{InBounds, OutOfBounds}
 
--- digits that write a number from 1 to most
+-- digits that write a number up to most
 unfoldable pub isUpTo : ℕ → List ℕ → Bool
-isUpTo most s = every isDigit s && (leb 1 (value s) && leb (value s) most)
+isUpTo most s = every isDigit s && leb (value s) most
 
 -- that number, or none
 unfoldable pub upTo : ℕ → List ℕ → Bounded

@@ -1,4 +1,4 @@
--- What the check of 49 answers of a piece of its table: the first fault, and where there is none, the places taken after the record.
+-- What the check of 49 answers of a piece of its table: the first fault, and where there is none, what the message has taken up after the record.
 -- Assumes nothing.
 use Prim.Native.Nat.{ℕ, _+_}
 use mathlib.Core.Path.{_≡_}
@@ -7,13 +7,13 @@ use Rattle.figures.specs.declared.totals.Totals.{Totals}
 use Rattle.layout.specs.Rows.{Row, firstFault}
 use Rattle.layout.specs.declared.Finding.the-variants.{Sound}
 use Rattle.rules.specs.Fields.{field, Message}
-use Rattle.rules.specs.Messages.{withPlace}
+use Rattle.rules.specs.declared.Places.{Places}
 use Rattle.record_49.specs.declared.Placed.{Placed}
 
--- of these rows, with the places taken before and the record's own place
-pub record PlacedBy (ws : List Row) (before place : ℕ) (r : List ℕ) (x : Placed) : Type 0 where
+-- of these rows of the record, and the places after it
+pub record PlacedBy (ws : List Row) (after : Places) (r : List ℕ) (x : Placed) : Type 0 where
   pub finding : (f : Totals) (ks : List ℕ) → x .finding ≡ firstFault f ks r ws
-  pub places : x .finding ≡ Sound → x .places ≡ withPlace before place
+  pub places : x .finding ≡ Sound → x .places ≡ after
 
 -- a message whose line is field k and stands at position p: in service 01 field 7 at 17, in service 04 field 6 at 16
 abbrev pub messageFrom : ℕ → ℕ → Message

@@ -1,3 +1,4 @@
 pub mod Codes
-pub mod Places
+pub mod Mask
+pub mod Free
 pub mod Records

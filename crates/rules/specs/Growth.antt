@@ -14,15 +14,15 @@ use Rattle.figures.specs.declared.amounts.Amount.{Amount}
 use Rattle.figures.specs.declared.counts.TransactionNumber.{TransactionNumber}
 use Rattle.figures.specs.declared.groups.Group.{Group}
 use Rattle.figures.specs.declared.totals.Totals.{Totals}
-use Rattle.figures.specs.declared.totals.AssignmentTotals.{AssignmentTotals}
 use Rattle.services.specs.Services.{serviceFor}
 use Rattle.rules.specs.Fields.{numberIn, transactionField}
 use Rattle.rules.specs.Codes.{serviceCode, typeCode, kindOf, numberOfKind, keyIn}
-use Rattle.rules.specs.Messages.{placeIn, withPlace}
+use Rattle.rules.specs.Messages.{noPlaces, withRecord}
 use Rattle.rules.specs.Payments.{dateIn, amountIn}
 use Rattle.rules.specs.Layouts.{amount50}
 use Rattle.rules.specs.declared.Kind.{Kind}
 use Rattle.rules.specs.declared.Kind.the-variants.{R10, R20, R30, R31, R40, R41, R49, R50, R88, R89, Other}
+use Rattle.rules.specs.declared.Places.{Places}
 use Rattle.rules.specs.declared.Assignment.{Assignment}
 use Rattle.rules.specs.declared.State.{State}
 
@@ -32,13 +32,13 @@ gainFor k r = if eqb (numberOfKind k) 30 then oneTransaction (amountIn r) (dateI
 
 -- before any assignment, after the record of this type
 abbrev pub nothingYet : Kind → Assignment
-nothingYet k = record { last = k; service = Remittance; totals = noneYet; number = transactionNumber 0; code = 0; due = amount 0; group = emptyGroup; places = 0 }
+nothingYet k = record { last = k; service = Remittance; totals = noneYet; number = transactionNumber 0; code = 0; due = amount 0; group = emptyGroup; places = noPlaces }
 
 abbrev pub opened : Service → Assignment
-opened s = record { last = R20; service = s; totals = undated oneAssignment; number = transactionNumber 0; code = 0; due = amount 0; group = emptyGroup; places = 0 }
+opened s = record { last = R20; service = s; totals = undated oneAssignment; number = transactionNumber 0; code = 0; due = amount 0; group = emptyGroup; places = noPlaces }
 
 -- one record more that brings no transaction
-abbrev pub passed : Kind → Group → ℕ → Assignment → Assignment
+abbrev pub passed : Kind → Group → Places → Assignment → Assignment
 passed k g ps a = record { last = k; service = a .service; totals = a .totals ⊞ undated oneRecord; number = a .number; code = a .code; due = a .due; group = g; places = ps }
 
 -- only a transaction of type 16 has sub-specifications, which have to give its amount
@@ -56,7 +56,7 @@ paidAs t n x d a =
       code = t;
       due = dueFor t x;
       group = emptyGroup;
-      places = 0;
+      places = noPlaces;
     }
 
 abbrev pub paid : List ℕ → Assignment → Assignment
@@ -77,7 +77,7 @@ turnFor R30 r a = paid r a
 turnFor R31 r a = passed R31 (a .group) (a .places) a
 turnFor R40 r a = passed R40 (a .group) (a .places) a
 turnFor R41 r a = passed R41 (a .group) (a .places) a
-turnFor R49 r a = passed R49 (a .group) (withPlace (a .places) (placeIn r)) a
+turnFor R49 r a = passed R49 (a .group) (withRecord (a .places) r) a
 turnFor R50 r a = passed R50 (grouped r (a .group)) (a .places) a
 turnFor R88 r a = passed R88 (a .group) (a .places) a
 turnFor R89 r a = passed R89 (a .group) (a .places) a

@@ -1,10 +1,11 @@
--- Document 01, "Layouts" and "Refusal numbers", and document 02, No. 2, for 41 and 49: a table for each record type, a row for each refusal, in the stated order.
+-- Document 01, "Layouts" and "Refusal numbers", and document 02, No. 2 and No. 3, for 41 and 49: a table for each record type, a row for each refusal, in the stated order.
 -- Assumes nothing.
 use Prim.Native.Nat.{ℕ, _+_}
 use mathlib.Core.List.{List, [], _∷_, _++_}
 use mathlib.Core.Bool.{Bool, not}
-use lib.Dec.{eqb}
+use lib.Dec.{eqb, leb}
 use Rattle.choice.specs.Choice.{if_then_else_}
+use Rattle.limits.specs.Limits.{mostInMessage}
 use Rattle.fields.specs.Bytes.{same}
 use Rattle.dates.specs.Dates.{ddmmyy}
 use Rattle.dates.specs.Windows.{inTime}
@@ -18,11 +19,12 @@ use Rattle.services.specs.Services.{codeFor}
 use Rattle.rules.specs.Codes.{serviceCode, typeCode, kindOf, keyIn}
 use Rattle.rules.specs.Fields.{Field, on, numberIn, senderField, agreementField, assignmentField, transactionField, dateField, amountField, Message, messageOf, specifiedField, transactionsField, recordsField, sumField, firstDateField, lastDateField}
 use Rattle.rules.specs.Order.{mayFollow}
-use Rattle.rules.specs.Messages.{placeAt, taken}
+use Rattle.rules.specs.Messages.{clashes, with49, used}
 use Rattle.rules.specs.Payments.{typeListed, aDate, dateIn, amountIn, party, partyAccount, amountAllowed, limitFor, kidOf, kidFor, name, postal, filler, country, line, column}
 use Rattle.rules.specs.declared.Kind.{Kind}
 use Rattle.rules.specs.declared.Kind.the-variants.{R10, R20, R30, R31, R40, R41, R49, R50, R88, R89, Other}
 use Rattle.rules.specs.declared.Mode.{Mode}
+use Rattle.rules.specs.declared.Places.{Places}
 use Rattle.rules.specs.declared.Assignment.{Assignment}
 
 -- byte 81 is a line feed, else 4
@@ -200,25 +202,28 @@ notificationBy remittance = if remittance then [] else (aNotification ∷ [])
 unfoldable pub notification49 : ℕ → List Row
 notification49 s = notificationBy (eqb s 4)
 
--- line and column of 49: the place is judged when the column is sound, before the text
-abbrev pub place49 : Message → ℕ → List ℕ → List Row
-place49 m places r =
-    on (m .line) line ∷
-    on (m .column) column ∷
-    must (not (taken places (placeAt m r))) 17 7 ∷
+-- what line and column find of the message: their place is free, and the message is not past its limit with this record
+abbrev pub free49 : Places → ℕ → ℕ → List Row
+free49 ps line column =
+    must (not (clashes ps line column)) 17 7 ∷
+    must (leb (used (with49 ps line column)) mostInMessage) 23 7 ∷
     []
 
+-- line and column of 49: the place is judged when the column is sound, before the text
+abbrev pub place49 : Message → Places → List ℕ → List Row
+place49 m ps r = (on (m .line) line ∷ on (m .column) column ∷ []) ++ free49 ps (numberIn (m .line) r) (numberIn (m .column) r)
+
 -- a message from its line on, wherever its service has it
-abbrev pub message49 : Message → ℕ → List ℕ → List Row
-message49 m places r =
-    place49 m places r ++
+abbrev pub message49 : Message → Places → List ℕ → List Row
+message49 m ps r =
+    place49 m ps r ++
     (on (m .text) textual ∷
     on (m .filler) zeros ∷
     [])
 
 -- what a 49 of its service has behind its number
-abbrev pub fields49 : ℕ → List ℕ → List Row
-fields49 places r = notification49 (serviceCode r) ++ message49 (messageOf (serviceCode r)) places r
+abbrev pub fields49 : Places → List ℕ → List Row
+fields49 ps r = notification49 (serviceCode r) ++ message49 (messageOf (serviceCode r)) ps r
 
 abbrev pub record49 : Assignment → List ℕ → List Row
 record49 a r = repeats a r ++ fields49 (a .places) r

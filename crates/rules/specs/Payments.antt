@@ -123,12 +123,12 @@ countryForm t f = if eqb t 4 then every isBlank f else every isText f
 abbrev pub country : ℕ → Rule
 country t = rule (countryForm t) 8
 
--- record 49: line 001 to 021, column 1 or 2
+-- record 49: line 001 to 021, column 1 or 2; document 02, No. 3: or 0, for no place
 unfoldable pub isLine : List ℕ → Bool
-isLine f = every isDigit f && (leb 1 (value f) && leb (value f) 21)
+isLine f = every isDigit f && leb (value f) 21
 
 unfoldable pub isColumn : List ℕ → Bool
-isColumn f = every isDigit f && (leb 1 (value f) && leb (value f) 2)
+isColumn f = every isDigit f && leb (value f) 2
 
 abbrev pub line : Rule
 line = rule isLine 7

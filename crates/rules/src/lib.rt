@@ -4,6 +4,7 @@ ghost use mathlib.Core.Path.{_≡_};
 ghost use Prim.Native.Nat.{_*_, _+_, _≤_};
 ghost use lib.ListN.{length};
 ghost use Rattle.limits.specs.Limits.{recordBytes};
+ghost use Rattle.rules.specs.Messages.{noPlaces};
 ghost use Rattle.rules.specs.Refusals.{refusal};
 ghost use Rattle.rules.specs.Run.{recordAt};
 use figures::amounts::Amount;
@@ -35,6 +36,26 @@ pub enum Mode {
     Draft,
 }
 
+// What the records 49 of a transaction have taken up of its message.
+pub struct Places {
+    // the places taken: bit line times two plus column
+    pub mask: u64,
+    // how many of the records have no place
+    pub unplaced: u32,
+}
+
+impl Places {
+    // Before the first record 49 of a transaction.
+    pub fn none() -> Places
+        ensures { λ x. ⌜ x ≡ noPlaces ⌝ }
+    {
+        Places {
+            mask: 0,
+            unplaced: 0,
+        }
+    }
+}
+
 // The assignment at hand, with its last record and its last transaction.
 pub struct Assignment {
     pub last: Kind,
@@ -46,8 +67,7 @@ pub struct Assignment {
     // what the transaction's sub-specifications have to give
     pub due: Amount,
     pub group: Group,
-    // the places of the message that are taken: bit line times two plus column
-    pub places: u64,
+    pub places: Places,
 }
 
 pub struct State {

@@ -12,6 +12,7 @@ use figures::groups::Group;
 use figures::totals::AssignmentTotals;
 use rules::Assignment;
 use rules::Kind;
+use rules::Places;
 use services::Service;
 
 // Before any assignment, after the record of this type.
@@ -26,7 +27,7 @@ pub fn before_assignments(kind: Kind) -> Assignment
         code: 0,
         due: Amount(0),
         group: Group::empty(),
-        places: 0,
+        places: Places::none(),
     }
 }
 
@@ -42,12 +43,12 @@ pub fn open_for(service: Service) -> Assignment
         code: 0,
         due: Amount(0),
         group: Group::empty(),
-        places: 0,
+        places: Places::none(),
     }
 }
 
 // After a record that brings no transaction, with the group and the places as they then are.
-pub fn pass(a: Assignment, kind: Kind, group: Group, places: u64) -> Assignment
+pub fn pass(a: Assignment, kind: Kind, group: Group, places: Places) -> Assignment
     requires { ⌜ Bounded mostRecords (a .totals .totals) ⌝ }
     ensures { λ x. ⌜ x ≡ passed kind group places a ⌝ }
 {
@@ -98,7 +99,7 @@ pub fn pay(
         code,
         due: due_for(code, amount),
         group: Group::empty(),
-        places: 0,
+        places: Places::none(),
     }
 }
 

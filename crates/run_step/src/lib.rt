@@ -15,11 +15,12 @@ use figures::groups::Group;
 use layout::Finding;
 use rules::Kind;
 use rules::Mode;
+use rules::Places;
 use rules::State;
 use rules::Step;
 
 // On after a record that brings no transaction, with the group and the places as they then are, or stop at what was found.
-fn pass_with(st: State, finding: Finding, kind: Kind, group: Group, places: u64) -> Step
+fn pass_with(st: State, finding: Finding, kind: Kind, group: Group, places: Places) -> Step
     requires { ⌜ Small mostRecords st ⌝ }
     ensures { λ x. ⌜ x ≡ stepped finding (passedOn kind group places st) ⌝ }
 {
@@ -43,7 +44,8 @@ fn pass_on(st: State, finding: Finding, kind: Kind) -> Step
 {
     let a = st.assignment;
     let group = a.group;
-    pass_with(st, finding, kind, group, a.places)
+    let places = a.places;
+    pass_with(st, finding, kind, group, places)
 }
 
 fn step10(st: State, r: &[u8]) -> Step
@@ -143,7 +145,8 @@ fn step49(st: State, r: &[u8]) -> Step
     let group = a.group;
     let placed = record_49::check49(r, a);
     let finding = placed.finding;
-    pass_with(st, finding, Kind::R49, group, placed.places)
+    let places = placed.places;
+    pass_with(st, finding, Kind::R49, group, places)
 }
 
 fn step50(st: State, r: &[u8]) -> Step

@@ -154,13 +154,16 @@ fn show_record(x: Refusal, mode: Mode, file: &[u8]) {
     remedies::say_right(x, mode, &file[0..RECORD_BYTES * before], r);
 }
 
-// The right form of a day and a date.
+// What the number alone tells: the right form of a day and a date, and what a message past its limit can do without. It has a text without a place, since there are only as many places as it may have texts.
 pub fn say_form(number: u8) {
     match number {
         1 => say(b"A day is written DDMMYY: 011025 is 1 October 2025.\n"),
         9 => say(b"A date is written DDMMYY: 011125 is 1 November 2025.\n"),
         10 => say(
             b"A date is at most one year after the process day; for service 01 also at most one year before it.\n",
+        ),
+        23 => say(
+            b"Leave out a text with line 000 or column 0: the notification does not show it.\n",
         ),
         _ => say(b""),
     }

@@ -27,8 +27,8 @@ fn say_choice(choice: Choice) {
             b"01, 02, 03, 04, 12, 16, 18, 32, 37, 62, 65 or 66 (service 04)",
         ),
         Choice::SpecificationTypes => say(b"16 or 17"),
-        Choice::Lines => say(b"001 to 021"),
-        Choice::Columns => say(b"1 or 2"),
+        Choice::Lines => say(b"001 to 021, or 000 for a text without a place,"),
+        Choice::Columns => say(b"1 or 2, or 0 for a text without a place,"),
     }
     say(b" would be right here.\n");
 }

@@ -26,7 +26,7 @@ use Rattle.tool_fixed.specs.declared.Choice.the-variants.{Services, Clai
 use Rattle.tool_fixed.specs.declared.Remedy.{Remedy}
 use Rattle.tool_fixed.specs.declared.Remedy.the-variants.{Unknown, Value, Start, Zeros, OneOf, AboveZero, NoneLeft, Digit, NoDigit}
 
--- the numbers from 1 up, in so many digits each
+-- these numbers, in so many digits each
 abbrev numbered : ℕ → List ℕ → List (List ℕ)
 numbered w [] = []
 numbered w (n ∷ ns) = written w n ∷ numbered w ns
@@ -37,8 +37,8 @@ chosen Services = numbered 2 (1 ∷ 4 ∷ [])
 chosen ClaimTypes = numbered 2 (2 ∷ 3 ∷ [])
 chosen RemittanceTypes = numbered 2 (1 ∷ 2 ∷ 3 ∷ 4 ∷ 12 ∷ 16 ∷ 18 ∷ 32 ∷ 37 ∷ 62 ∷ 65 ∷ 66 ∷ [])
 chosen SpecificationTypes = numbered 2 (16 ∷ 17 ∷ [])
-chosen Lines = numbered 3 (1 ∷ 2 ∷ 3 ∷ 4 ∷ 5 ∷ 6 ∷ 7 ∷ 8 ∷ 9 ∷ 10 ∷ 11 ∷ 12 ∷ 13 ∷ 14 ∷ 15 ∷ 16 ∷ 17 ∷ 18 ∷ 19 ∷ 20 ∷ 21 ∷ [])
-chosen Columns = numbered 1 (1 ∷ 2 ∷ [])
+chosen Lines = numbered 3 (0 ∷ 1 ∷ 2 ∷ 3 ∷ 4 ∷ 5 ∷ 6 ∷ 7 ∷ 8 ∷ 9 ∷ 10 ∷ 11 ∷ 12 ∷ 13 ∷ 14 ∷ 15 ∷ 16 ∷ 17 ∷ 18 ∷ 19 ∷ 20 ∷ 21 ∷ [])
+chosen Columns = numbered 1 (0 ∷ 1 ∷ 2 ∷ [])
 
 abbrev pub texts : ℕ → Remedy → List (List ℕ)
 texts width Unknown = []

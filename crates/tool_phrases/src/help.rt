@@ -50,6 +50,7 @@ fn say_values() {
     say(b"  49;service;type;transaction;line;column;text\n");
     say(b"  50;service;type;transaction;KID;amount\n");
     say(b"An amount is in hundredths of a krone: 80000 is 800.00 kroner.\n");
+    say(b"A text with line 0 or column 0 has no place: the notification leaves it out.\n");
     say(b"\n");
 }
 

@@ -31,7 +31,7 @@ pub fn say_meaning(number: u8) {
     }
 }
 
-// Numbers 12 to 22: fields against others, sums, and the operations.
+// Numbers 12 to 23: fields against others, sums, messages, and the operations.
 fn say_of_files(number: u8) {
     match number {
         12 => say(b"service, type or transaction number disagrees with the records before"),
@@ -45,6 +45,7 @@ fn say_of_files(number: u8) {
         20 => say(b"the two files have different senders"),
         21 => say(b"the file cannot be parted there"),
         22 => say(b"a value is too long for its field"),
+        23 => say(b"the message has more than 42 texts, counting those without a place"),
         _ => say(b"a number that the rules do not have"),
     }
 }

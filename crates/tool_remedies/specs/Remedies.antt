@@ -11,6 +11,7 @@ use Rattle.field_accounts.specs.declared.Account.the-variants as account
 use Rattle.figures.specs.Figures.{amount}
 use Rattle.figures.specs.Groups.{emptyGroup}
 use Rattle.rules.specs.Codes.{serviceCode, kindOf, numberOfKind}
+use Rattle.rules.specs.Messages.{noPlaces}
 use Rattle.rules.specs.Order.{mayFollow}
 use Rattle.rules.specs.declared.Assignment.{Assignment}
 use Rattle.rules.specs.declared.Mode.{Mode}
@@ -39,7 +40,7 @@ accountFor k r = digitOf (accountOf (accountPart k r))
 -- ---- 5 and 6: the record types that may stand here
 abbrev pub atHand : Seen → Assignment
 atHand s =
-    record { last = s .last; service = s .service; totals = s .totals; number = s .number; code = s .code; due = amount 0; group = emptyGroup; places = 0 }
+    record { last = s .last; service = s .service; totals = s .totals; number = s .number; code = s .code; due = amount 0; group = emptyGroup; places = noPlaces }
 
 unfoldable pub nextTypes : Mode → Seen → NextTypes
 nextTypes m s =

@@ -15,6 +15,7 @@ use limits::RECORD_BYTES;
 use rules::Assignment;
 use rules::Kind;
 use rules::Mode;
+use rules::Places;
 use tool_fixed::Remedy;
 use tool_walk::Seen;
 
@@ -91,7 +92,10 @@ fn at_hand(seen: Seen) -> Assignment
             specified: Amount(0),
             credited: Amount(0),
         },
-        places: 0,
+        places: Places {
+            mask: 0,
+            unplaced: 0,
+        },
     }
 }
 

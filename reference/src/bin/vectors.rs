@@ -123,6 +123,7 @@ fn sound(seed: u64, assignments: u32) -> (Vec<u8>, Vec<u8>) {
         records: None,
         extras: 40,
         notices: 0,
+        unplaced: 0,
         extremes: seed.is_multiple_of(2),
     };
     draft_and_file(plan)
@@ -340,6 +341,94 @@ fn notified_files() -> [Vec<u8>; 3] {
     [notified(), file("04"), with(&file("03"), 2, 18, "0000002")]
 }
 
+/// The lines and columns of a full message: each line's column 1, and as many without a place.
+fn mixed() -> Vec<(u32, u32)> {
+    let without = |line: u32| [(line, 0), (0, 2), (0, 0)][line as usize % 3];
+    (1..=21).flat_map(|line| [(line, 1), without(line)]).collect()
+}
+
+/// Drafts with messages without a place.
+fn sound_messages(service: &str, code: &str) -> Vec<Vec<u8>> {
+    let none = vec![(0, 0); 42];
+    let drafts = [
+        // What has no place cannot clash, and takes none.
+        vec![vec![(0, 1), (0, 1)]],
+        vec![vec![(1, 0), (1, 0)]],
+        vec![vec![(0, 0), (0, 0)]],
+        vec![vec![(0, 1), (1, 1), (1, 0), (1, 2), (0, 2), (21, 2), (21, 0), (21, 1)]],
+        // 42: with a place, without, both.
+        vec![every_place()],
+        vec![none.clone()],
+        vec![mixed()],
+        // Anew in each transaction.
+        vec![none.clone(), every_place(), none, mixed()],
+    ];
+    drafts.map(|draft| messages(service, code, &draft)).into()
+}
+
+/// Drafts in which the last piece of a message is refused.
+fn refused_messages(service: &str, code: &str) -> Vec<Vec<u8>> {
+    let of = |message: &[(u32, u32)]| messages(service, code, &[message.to_vec()]);
+    let (places, none, mixed) = (every_place(), vec![(0, 0); 42], mixed());
+    let over = |message: &[(u32, u32)], piece| of(&[message, &[piece]].concat());
+    let line = if service == "04" { 16 } else { 17 };
+    let mut drafts = vec![
+        // The 43rd, whose place is taken or not; in the second transaction.
+        over(&places, (0, 0)),
+        over(&places, (11, 2)),
+        over(&none, (0, 0)),
+        over(&none, (21, 2)),
+        over(&mixed, (7, 0)),
+        over(&mixed, (5, 2)),
+        over(&mixed, (5, 1)),
+        messages(service, code, &[none.clone(), [&mixed[..], &[(0, 1)]].concat()]),
+        // Its line and its column go before that.
+        over(&none, (22, 0)),
+        over(&mixed, (0, 3)),
+        // One of the two is wrong, the other 0 or not.
+        of(&[(22, 0)]),
+        of(&[(0, 3)]),
+        of(&[(21, 3)]),
+        // A place stays taken.
+        of(&[(1, 1), (0, 1), (1, 0), (1, 1)]),
+    ];
+    let fields = [
+        // Blanks are no zeros.
+        (of(&[(0, 0)]), line, "   0"),
+        (of(&[(0, 0)]), line, "000 "),
+        // The text and the filler of an unplaced one; of a 43rd, behind 23 and 17.
+        (of(&[(0, 1)]), 59, "\u{1}"),
+        (of(&[(1, 0)]), 80, "1"),
+        (over(&none, (1, 1)), 59, "\u{1}"),
+        (over(&places, (1, 0)), 80, "1"),
+        (over(&mixed, (21, 1)), 59, "\u{1}"),
+    ];
+    drafts.extend(fields.map(|(draft, from, text)| with(&draft, draft.len() / RECORD, from, text)));
+    drafts
+}
+
+/// Drafts with messages without a place, sound and refused, of both services.
+fn message_drafts() -> Vec<Vec<u8>> {
+    [
+        sound_messages("01", "03"),
+        sound_messages("04", "04"),
+        refused_messages("01", "03"),
+        refused_messages("04", "03"),
+    ]
+    .concat()
+}
+
+fn closings() -> Vec<Case> {
+    let messages = message_drafts().iter().map(|draft| close(draft)).collect();
+    [sound_closings(), refused_closings(), sound_notices(), refused_notices(), messages].concat()
+}
+
+/// Two files of one sender with messages without a place, one of each service.
+fn unplaced_files() -> [Vec<u8>; 2] {
+    let file = |service, code| closed(&messages(service, code, &[mixed(), vec![(0, 0); 42]]));
+    [file("01", "03"), with(&file("04", "04"), 2, 18, "0000002")]
+}
+
 /// A file for each refusal that a check of this length can give.
 fn refused_files() -> Vec<Vec<u8>> {
     let file = every_kind();
@@ -361,6 +450,7 @@ fn refused_files() -> Vec<Vec<u8>> {
         with(&file, 20, 17, "0011"),
         with(&file, 23, 41, "9"),
         with(&file, 24, 24, "5"),
+        closed(&messages("04", "03", &[vec![(0, 0); 43]])),
     ]
 }
 
@@ -393,6 +483,9 @@ fn sound_joinings() -> Vec<Case> {
     cases.push(join(&file_of("04", &keys(0, 489), 1), &file_of("04", &[(5, 1)], 1)));
     // Second addresses and messages of service 04 in both.
     let [first, second, _] = notified_files();
+    cases.push(join(&first, &second));
+    // Messages without a place in both.
+    let [first, second] = unplaced_files();
     cases.push(join(&first, &second));
     cases
 }
@@ -476,10 +569,11 @@ fn partings() -> Vec<Case> {
     // The first date of each part.
     let dates = joined(&joined(&dated(1, "010126"), &dated(2, "311225")), &dated(3, "280226"));
     cases.extend([part(&dates, 1), part(&dates, 2)]);
-    // Second addresses and messages of service 04 in each assignment.
+    // Second addresses and messages of service 04 in each assignment; messages without a place.
     let [first, second, third] = notified_files();
     let notices = joined(&joined(&first, &second), &third);
-    cases.extend([part(&notices, 1), part(&notices, 2)]);
+    let [one, other] = unplaced_files();
+    cases.extend([part(&notices, 1), part(&notices, 2), part(&joined(&one, &other), 1)]);
     // The check's refusals, before 21 and 19.
     cases.extend(refused_files().iter().map(|file| part_on(DAY, file, 1, [2000, 2000])));
     cases.push(part_on((2025, 11, 31), &pair, 1, [486, 486]));
@@ -547,6 +641,17 @@ fn sound_makings() -> Vec<Case> {
     cases
 }
 
+/// Pieces of a message without a place. A place twice and a 43rd piece are closing's.
+fn message_makings() -> Vec<Case> {
+    let lines = |service, message| till::plain_lines(&messages(service, "03", &[message]));
+    vec![
+        make("49;1;3;1;0;0;\n49;1;3;1;000;1;\n49;1;2;1;1;0;x\n"),
+        make("49;4;3;1;0;0;\n49;4;4;1;0;2;x\n49;4;66;1;021;0;\n"),
+        make(lines("01", vec![(5, 1); 2])),
+        make(lines("04", vec![(0, 0); 43])),
+    ]
+}
+
 /// A line for each number and field that making a record of each type can refuse.
 fn refused_makings() -> Vec<Case> {
     let (left, over) = (format!("{:<25}", "34"), MOST + 1);
@@ -609,6 +714,9 @@ fn refused_makings() -> Vec<Case> {
         "49;1;3;1;1;0;\0".into(),
         "49;1;3;1;1;3;\0".into(),
         "49;1;3;1;1;2;\0".into(),
+        "49;1;3;1;22;0;\0".into(),
+        "49;1;3;1;0;3;\0".into(),
+        "49;1;3;1;0;2;\0".into(),
         // 41
         "41;9;3;10000000;;;NORD".into(),
         format!("41;9;3;1;{};;", blanks(31)),
@@ -628,6 +736,10 @@ fn refused_makings() -> Vec<Case> {
         "49;4;3;1;22;0;\0".into(),
         "49;4;4;1;21;3;\0".into(),
         "49;4;4;1;1;2;\0".into(),
+        "49;4;3;1;0;3;\0".into(),
+        "49;4;3;1;0;0;\0".into(),
+        "49;4;4;1;0;1;\0".into(),
+        "49;4;4;1;21;0;\0".into(),
         // 50
         format!("50;4;16;1;{};{over}", blanks(26)),
         format!("50;9;16;1;1;{over}"),
@@ -684,6 +796,10 @@ fn refused_lines() -> Vec<Case> {
     cases
 }
 
+fn makings() -> Vec<Case> {
+    [sound_makings(), message_makings(), refused_makings(), refused_lines()].concat()
+}
+
 /// A name has four digits.
 const NAMES: usize = 10_000;
 
@@ -707,13 +823,10 @@ fn main() -> io::Result<()> {
     let kept = (0..NAMES).take_while(|&index| is_kept(index)).count();
 
     let groups = [
-        (
-            "close",
-            [sound_closings(), refused_closings(), sound_notices(), refused_notices()].concat(),
-        ),
+        ("close", closings()),
         ("join", [sound_joinings(), refused_joinings()].concat()),
         ("part", partings()),
-        ("make", [sound_makings(), refused_makings(), refused_lines()].concat()),
+        ("make", makings()),
     ];
     println!("{kept} check vectors kept");
     let mut index = kept;

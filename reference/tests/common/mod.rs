@@ -93,3 +93,22 @@ pub fn part(data: &[u8], k: u64, rooms: [usize; 2]) -> (Parting, [Vec<u8>; 2]) {
     assert_eq!([first, second], [written(&outs[0]), written(&outs[1])]);
     (parting, outs)
 }
+
+/// What checking says of a draft with its end records, and closing of the draft: the same, since
+/// a draft of one assignment has the same numbers of records.
+pub fn judged(draft: &[u8]) -> Verdict {
+    let file = closed(draft);
+    let verdict = check(&file);
+    let (closing, out) = close(draft, file.len());
+    assert_eq!(closing, verdict);
+    assert!(verdict.is_err() || out == file);
+    verdict
+}
+
+/// The number and the field of a refusal, which is of this record.
+pub fn fault(draft: &[u8], record: usize) -> Option<(u8, u8)> {
+    judged(draft).err().map(|refused| {
+        assert_eq!(refused.record as usize, record);
+        (refused.number, refused.field)
+    })
+}

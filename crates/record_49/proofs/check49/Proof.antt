@@ -10,7 +10,7 @@ use Rattle.record_49.proofs.check49.Tie as tie
 use Rattle.record_49.proofs.check49.Reads as reads
 use Rattle.record_49.proofs.check49.Lts as lts
 use Rattle.record_49.proofs.own_fields.Reads as own-fields-reads
-use Rattle.record_49.proofs.unplaced.Reads as unplaced-reads
+use Rattle.record_49.proofs.faulty.Reads as faulty-reads
 use Rattle.record_shared.proofs.repeating.Reads as repeating-reads
 
 repeating-requires : tie.Need-repeating-requires
@@ -19,15 +19,15 @@ repeating-requires c κs = search needs
 enum-known-head : tie.Need-enum-known-head
 enum-known-head c = search needs
 
-unplaced-requires : tie.Need-unplaced-requires
-unplaced-requires c κs = search needs
+faulty-requires : tie.Need-faulty-requires
+faulty-requires c κs = search needs
 
 returns : tie.Need-returns
 returns c =
     let p = c .before .before .before .before in
-    let s = p .before .before .before .args in
+    let s = p .before .before .before .before .args in
     let fault = c .before .before .head .given .1 in
-    at-fault _ _ _ _ (c .unplaced .result) (c .unplaced .ensures)
+    at-fault _ _ _ (c .faulty .result) (c .faulty .ensures)
     (λ f ks. sym fault ∙ ends-here f ks (s .r .now) (repeats (s .a) (s .r .now)) (fields49 (s .a .places) (s .r .now)) (p .repeating .ensures (s .a) refl refl refl f ks) fault)
 
 enum-told : tie.Need-enum-told
@@ -39,7 +39,7 @@ own-fields-requires c κs = search needs
 returns-2 : tie.Need-returns-2
 returns-2 c =
     let p = c .before .before .before in
-    let s = p .before .before .before .args in
+    let s = p .before .before .before .before .args in
     let own = c .own-fields .ensures in
     record {
       finding = λ f ks.
@@ -53,7 +53,7 @@ check49-spec =
     (tie.spec
     repeating-requires
     enum-known-head
-    unplaced-requires
+    faulty-requires
     returns
     enum-told
     own-fields-requires

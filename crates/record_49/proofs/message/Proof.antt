@@ -38,7 +38,7 @@ returns c =
     let p = c .before .before in
     let s = p .before .before .args in
     let fault = c .enum-told2 .given .1 in
-    at-fault _ _ _ _ (p .placing .result) fault
+    at-fault _ _ _ (p .placing .result) fault
     (λ f ks. sym fault ∙ ends-here f ks (s .r .now) (place49 (messageFrom (s .field) (s .from)) (s .places) (s .r .now)) (behind (s .field) (s .from)) (p .placing .ensures .finding f ks) fault)
 
 add-all-at : tie.Need-add-all-at
@@ -70,9 +70,9 @@ demand-requires-2 c κs = search needs
 
 returns-2 : tie.Need-returns-2
 returns-2 c =
-    let p = c .before .before .before .before .before .before in
+    let p = c .before .before .before .before .before .before .before in
     let s = p .before .before .args in
-    let sound = c .before .before .before .before .enum-told .given .1 in
+    let sound = c .before .before .before .before .before .enum-told .given .1 in
     record {
       finding = λ f ks.
           goes-on f ks (s .r .now) (place49 (messageFrom (s .field) (s .from)) (s .places) (s .r .now)) (behind (s .field) (s .from)) (p .placing .ensures .finding f ks) sound

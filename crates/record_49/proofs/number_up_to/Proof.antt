@@ -1,6 +1,5 @@
--- A number from 1 to a bound: no digits, out of bounds, within them.
+-- A number up to a bound: no digits, out of bounds, within them.
 -- Assumes nothing.
-use borrow.Author.Tests.{not-true, not-false}
 use Rattle.layout.proofs.Laws.{digits-pass, digits-fail, value-is}
 use Rattle.record_49.proofs.Bounds.{no-digits, out-of-bounds, in-bounds}
 use borrow.Author.Needs.{needs}
@@ -26,13 +25,13 @@ returns-2 : tie.Need-returns-2
 returns-2 c =
     let read = c .before .before .before .before .number-at .ensures in
     let is = c .before .before .n .given .1 in
-    out-of-bounds _ _ (digits-pass _ _ read _ is) _ (value-is _ _ read _ is) (not-true _ (c .if1 .taken))
+    out-of-bounds _ _ (digits-pass _ _ read _ is) _ (value-is _ _ read _ is) (c .if1 .taken)
 
 returns-3 : tie.Need-returns-3
 returns-3 c =
     let read = c .before .before .before .before .number-at .ensures in
     let is = c .before .before .n .given .1 in
-    in-bounds _ _ (digits-pass _ _ read _ is) _ (value-is _ _ read _ is) (not-false _ (c .if1 .left))
+    in-bounds _ _ (digits-pass _ _ read _ is) _ (value-is _ _ read _ is) (c .if1 .left)
 
 pub number-up-to-spec : {M : Type 1} → statement M
 number-up-to-spec =

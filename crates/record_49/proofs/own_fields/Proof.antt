@@ -17,7 +17,7 @@ use Rattle.record_49.proofs.own_fields.Lts as lts
 use Rattle.fields.proofs.code_at.Reads as code-at-reads
 use Rattle.fields.proofs.same_at.Reads as same-at-reads
 use Rattle.record_49.proofs.message.Reads as message-reads
-use Rattle.record_49.proofs.unplaced.Reads as unplaced-reads
+use Rattle.record_49.proofs.faulty.Reads as faulty-reads
 
 -- a service code other than 04
 other : (p : tie.Else1) → eqb (serviceCode (p .before .before .before .args .r .now)) 4 ≡ false
@@ -41,15 +41,15 @@ slice-aggregate-same-at c = search needs
 same-at-requires : tie.Need-same-at-requires
 same-at-requires c κs = search needs
 
-unplaced-requires : tie.Need-unplaced-requires
-unplaced-requires c κs = search needs
+faulty-requires : tie.Need-faulty-requires
+faulty-requires c κs = search needs
 
 returns-2 : tie.Need-returns-2
 returns-2 c =
     let p = c .before .before .before .before in
     let s = p .before .before .before .args in
     in-service-01 (s .places) (s .r .now) _ (other p)
-    (at-fault _ _ _ _ (c .unplaced .result) (c .unplaced .ensures) (λ f ks. sym (stop f ks _ aNotification _ (test-fail _ _ (c .before .before .same-at .ensures) (c .before .if2 .taken)))))
+    (at-fault _ _ _ (c .faulty .result) (c .faulty .ensures) (λ f ks. sym (stop f ks _ aNotification _ (test-fail _ _ (c .before .before .same-at .ensures) (c .before .if2 .taken)))))
 
 message-requires-2 : tie.Need-message-requires-2
 message-requires-2 c κs = search needs
@@ -73,7 +73,7 @@ own-fields-spec =
     returns
     slice-aggregate-same-at
     same-at-requires
-    unplaced-requires
+    faulty-requires
     returns-2
     message-requires-2
     returns-3)

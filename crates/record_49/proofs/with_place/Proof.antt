@@ -16,7 +16,7 @@ shl-result c = search needs
 
 returns : tie.Need-returns
 unfolding withPlace
-returns c = ap (bitOr (c .args .places)) (shl-exact {a = 1} 1 (c .args .place) 64 (lit< tt) (omega arith) ∙ one-mul _)
+returns c = ap (bitOr (c .args .mask)) (shl-exact {a = 1} 1 (c .args .place) 64 (lit< tt) (omega arith) ∙ one-mul _)
 
 pub with-place-spec : {M : Type 1} → statement M
 with-place-spec = tie.close (tie.spec shl-result returns)

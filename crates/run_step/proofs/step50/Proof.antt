@@ -34,7 +34,7 @@ code-at-requires c κs = search needs
 group-with-requires : tie.Need-group-with-requires
 group-with-requires c κs =
     let p = c .before .before .before .before in
-    let q = p .before .before .before .before in
+    let q = p .before .before .before .before .before in
     let a = q .args in
     let found = p .check50 .ensures in
     let sound = c .before .before .enum-told .given .1 in
@@ -47,13 +47,13 @@ pass-with-requires c κs = search needs
 returns : tie.Need-returns
 returns c = λ w ks.
     let p = c .before .before .before in
-    let a = p .before .before .before .before .args in
+    let a = p .before .before .before .before .before .args in
     stop-at R50 w (a .st) ks (a .r .now) _ (p .check50 .ensures .finding (a .st .file) ks) _ _ (c .before .finding .given .1)
 
 returns-2 : tie.Need-returns-2
 returns-2 c = λ w ks.
     let p = c .before .before .before .before .before .before in
-    let a = p .before .before .before .before .args in
+    let a = p .before .before .before .before .before .args in
     let found = p .check50 .ensures in
     c .pass-with .ensures
     ∙ behind R50 w (a .st) ks (a .r .now) _ (found .finding (a .st .file) ks) _
