@@ -6,11 +6,11 @@ use mathlib.Core.Bool.{Bool, true, false, _&&_, _||_}
 use native.Mathlib.Nat.{le-trans, min-comm, max-comm, zero-max}
 use native.Mathlib.Omega.{arith}
 use lib.Dec.{ltb, eqb, eqb·suc-zero}
-use borrow.Author.Tests.{leb-true, ltb-true, ltb-false}
+use borrow.Author.Tests.{leb-true, ltb-true, ltb-false, eq-eqb, ne-eqb}
 use Rattle.choice.specs.Choice.{if_then_else_}
 use Rattle.dates.specs.declared.Date.{Date}
 use Rattle.dates.specs.declared.Day.the-variants.{On, NoDate}
-use Rattle.dates.specs.Dates.{date, daysIn, isDate, dateNumber, dayOf, readDay, ddmmyy, earlier, later}
+use Rattle.dates.specs.Dates.{date, daysIn, isDate, dateNumber, dayOf, dayTold, readDay, ddmmyy, earlier, later}
 
 -- the bounds of a date's year, month and day
 pub record Parts (y m d : ℕ) : Type 0 where
@@ -54,6 +54,14 @@ parts y m d e =
       day-from = leb-true _ _ (day .0);
       day-to = le-trans (leb-true _ _ (day .1)) (days-most y m);
     }
+
+-- what a date tells: none where it is 0, else itself
+module _ (x : Date) where
+  pub none-told : x .0 ≡ 0 → dayTold x ≡ NoDate
+  none-told h = ap (λ (t : Bool). if t then NoDate else On x) (eq-eqb (x .0) 0 h)
+
+  pub date-told : (x .0 ≡ 0 → ⊥) → dayTold x ≡ On x
+  date-told h = ap (λ (t : Bool). if t then NoDate else On x) (ne-eqb (x .0) 0 h)
 
 -- a year, a month and a day that have a date are one, and the date is their number
 pub day-parts : (y m d : ℕ) (e : Date) → dayOf y m d ≡ On e → (isDate y m d ≡ true) × (e ≡ date (dateNumber y m d))

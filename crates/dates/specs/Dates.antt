@@ -29,6 +29,10 @@ dateNumber year month day = year * 10000 + month * 100 + day
 unfoldable pub dayOf : ℕ → ℕ → ℕ → Day
 dayOf year month day = if isDate year month day then On (date (dateNumber year month day)) else NoDate
 
+-- 0 stands for no date: the day that such a date tells
+abbrev pub dayTold : Date → Day
+dayTold d = if eqb (d .0) 0 then NoDate else On d
+
 -- the date that a number reads as, its digits being DDMMYY; every two-digit year means 2000 to 2099
 unfoldable pub readDay : ℕ → Day
 readDay n = dayOf (2000 + n % 100) (n / 100 % 100) (n / 10000)

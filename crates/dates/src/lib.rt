@@ -3,7 +3,7 @@
 ghost use mathlib.Core.Path.{_≡_};
 ghost use mathlib.Core.Bool.{_||_};
 ghost use lib.Dec.{eqb};
-ghost use Rattle.dates.specs.Dates.{daysIn, isDate, dayOf, readDay, ddmmyy, earlier, later};
+ghost use Rattle.dates.specs.Dates.{daysIn, isDate, dayOf, dayTold, readDay, ddmmyy, earlier, later};
 ghost use Rattle.dates.specs.Windows.{windowOf, earliest, inTime};
 use services::Service;
 
@@ -63,14 +63,31 @@ fn is_date(year: u64, month: u64, day: u64) -> bool
         & ((1 <= day) & (day <= days_in(year, month)))
 }
 
+// The date of a year, a month and a day, of any size; 0 where they are none.
+pub fn date_or_none(year: u64, month: u64, day: u64) -> Date
+    ensures { λ r. ⌜ dayTold r ≡ dayOf year month day ⌝ }
+{
+    if !is_date(year, month, day) {
+        return Date(0);
+    }
+    Date((year * 10000 + month * 100 + day) as u32)
+}
+
+// The day that a date tells: none where it is 0.
+pub fn day_told(date: Date) -> Day
+    ensures { λ r. ⌜ r ≡ dayTold date ⌝ }
+{
+    if date.0 == 0 {
+        return Day::NoDate;
+    }
+    Day::On(date)
+}
+
 // The date of a year, a month and a day, of any size.
 pub fn day_of(year: u64, month: u64, day: u64) -> Day
     ensures { λ r. ⌜ r ≡ dayOf year month day ⌝ }
 {
-    if !is_date(year, month, day) {
-        return Day::NoDate;
-    }
-    Day::On(Date((year * 10000 + month * 100 + day) as u32))
+    day_told(date_or_none(year, month, day))
 }
 
 // The date that a number reads as, its digits being DDMMYY.

@@ -2,8 +2,8 @@
 -- Assumes nothing.
 use Prim.Native.Nat.{ℕ, zero, suc, _+_, _-_, _*_, _/_, _%_, _^_, _≤_, _<_}
 use mathlib.Core.Path.{_≡_, refl, ap, ap₂, sym, _∙_}
-use mathlib.Core.List.{List, [], _∷_}
-use mathlib.Core.Bool.{Bool, true, false}
+use mathlib.Core.List.{List, [], _∷_, _++_}
+use mathlib.Core.Bool.{Bool, true, false, _&&_, and-assoc}
 use native.Mathlib.Nat.{pow-succ', mod-eq-of-lt, one-le-pow, mul-assoc, add-mul, add-assoc, zero-mul, zero-add, mod-one}
 use native.Mathlib.Omega.{arith}
 use lib.Arith.{mod-mul, digits-lt, digits-div}
@@ -11,10 +11,11 @@ use lib.Dec.{lit<}
 use lib.ListN.{length, length-take, length-drop}
 use Rattle.field_bytes.specs.Bytes.{every, isDigit, part, Inside}
 use Rattle.field_digits.specs.Numbers.{valueFrom, value, numberOf, written}
-use Rattle.field_digits.specs.declared.Digits.the-variants.{Number}
+use Rattle.field_digits.specs.declared.Digits.{Digits}
+use Rattle.field_digits.specs.declared.Digits.the-variants.{Number, NotDigits}
 use Rattle.field_bytes.proofs.Tests.{and-left, and-right, and-both}
 use Rattle.field_bytes.proofs.Every.{digit-low, digit-high, digit-is}
-use Rattle.field_digits.proofs.Values.{number-is, number-yes}
+use Rattle.field_digits.proofs.Values.{number-is, number-yes, number-no}
 
 -- what was read before counts 10 ^ width times
 pub value-split : (a : ℕ) (s : List ℕ) → valueFrom a s ≡ a * 10 ^ length s + value s
@@ -55,6 +56,37 @@ value-written a (b ∷ s) h =
     let q : valueFrom A s / 10 ^ length s ≡ A = rw (value-split A s) (digits-div A (value-below s hs)) in
     let e : 48 + A % 10 ≡ b = omega (arith, digit-low b hb, digit-high b hb) in
     ap₂ _∷_ (ap (λ (x : ℕ). 48 + x % 10) q ∙ e) (value-written A s hs)
+
+-- ---- reading in steps is reading digit by digit, whatever the widths and whatever the bytes
+pub steps-every : (f : ℕ → Bool) (s t : List ℕ) → every f (s ++ t) ≡ every f s && every f t
+unfolding every
+steps-every f [] t = refl
+steps-every f (b ∷ s) t = ap (λ (u : Bool). f b && u) (steps-every f s t) ∙ sym (and-assoc (f b) (every f s) (every f t))
+
+steps-value : (a : ℕ) (s t : List ℕ) → valueFrom a (s ++ t) ≡ valueFrom (valueFrom a s) t
+unfolding valueFrom
+steps-value a [] t = refl
+steps-value a (b ∷ s) t = steps-value (a * 10 + (b - 48)) s t
+
+-- what was read, and behind it w digits more
+abbrev pub furtherBy : ℕ → Digits → Digits → Digits
+furtherBy w (Number a) (Number b) = Number (a * 10 ^ w + b)
+furtherBy w (Number a) NotDigits = NotDigits
+furtherBy w NotDigits d = NotDigits
+
+pub in-steps : (s t : List ℕ) → numberOf (s ++ t) ≡ furtherBy (length t) (numberOf s) (numberOf t)
+in-steps s t = go (every isDigit s) (every isDigit t) refl refl
+  where
+    both : (p q : Bool) → every isDigit s ≡ p → every isDigit t ≡ q → every isDigit (s ++ t) ≡ p && q
+    both p q hs ht = steps-every isDigit s t ∙ ap₂ _&&_ hs ht
+
+    go : (p q : Bool) → every isDigit s ≡ p → every isDigit t ≡ q → numberOf (s ++ t) ≡ furtherBy (length t) (numberOf s) (numberOf t)
+    go true true hs ht =
+        number-yes (s ++ t) (both true true hs ht)
+        ∙ ap Number (steps-value 0 s t ∙ value-split (value s) t)
+        ∙ sym (ap₂ (furtherBy (length t)) (number-yes s hs) (number-yes t ht))
+    go true false hs ht = number-no (s ++ t) (both true false hs ht) ∙ sym (ap₂ (furtherBy (length t)) (number-yes s hs) (number-no t ht))
+    go false q hs ht = number-no (s ++ t) (both false q hs ht) ∙ sym (ap (λ (d : Digits). furtherBy (length t) d (numberOf t)) (number-no s hs))
 
 -- the four facts of a field of w places
 pub record DigitField (w : ℕ) : Type 0 where

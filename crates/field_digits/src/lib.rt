@@ -3,7 +3,7 @@
 ghost use mathlib.Core.Path.{_≡_};
 ghost use mathlib.Core.Bool.{true};
 ghost use Prim.Native.Nat.{_≤_};
-ghost use lib.ListN.{length};
+ghost use lib.ListN.{length, drop};
 ghost use Rattle.field_bytes.specs.Bytes.{every, isDigit};
 ghost use Rattle.field_digits.specs.Numbers.{value, numberOf, paired};
 ghost use Rattle.field_words.specs.Words.{bytesOf};
@@ -15,7 +15,8 @@ use field_words::pairs_in;
 use field_words::value_in;
 use field_words::wide;
 use field_words::word;
-use field_words::word_of_seven;
+use field_words::word_of_last_seven;
+use field_words::word_of_last_six;
 use field_words::word_of_six;
 
 pub enum Digits {
@@ -29,7 +30,7 @@ pub enum DigitPairs {
     NoPairs,
 }
 
-// Six to nine bytes are read by words.
+// Six, eight, nine and seventeen bytes are read by words.
 pub fn number(s: &[u8]) -> Digits
     requires { ⌜ length (now s) ≤ 17 ⌝ }
     ensures { λ r. ⌜ r ≡ numberOf (now (s .entry)) ⌝ }
@@ -37,14 +38,14 @@ pub fn number(s: &[u8]) -> Digits
     if s.len() == 8 {
         return eight(s);
     }
-    if s.len() == 7 {
-        return seven(s);
-    }
     if s.len() == 6 {
         return six(s);
     }
     if s.len() == 9 {
         return nine(s);
+    }
+    if s.len() == 17 {
+        return seventeen(s);
     }
     by_bytes(s)
 }
@@ -56,11 +57,12 @@ fn eight(s: &[u8]) -> Digits
     number_in(word(s))
 }
 
-fn seven(s: &[u8]) -> Digits
-    requires { ⌜ length (now s) ≡ 7 ⌝ }
-    ensures { λ r. ⌜ r ≡ numberOf (now (s .entry)) ⌝ }
+// Seven digits, given with the byte before them: one word has them all.
+pub fn last_seven(s: &[u8]) -> Digits
+    requires { ⌜ length (now s) ≡ 8 ⌝ }
+    ensures { λ r. ⌜ r ≡ numberOf (drop 1 (now (s .entry))) ⌝ }
 {
-    number_in(word_of_seven(s))
+    number_in(word_of_last_seven(s))
 }
 
 fn six(s: &[u8]) -> Digits
@@ -75,7 +77,20 @@ pub fn pairs(s: &[u8]) -> DigitPairs
     requires { ⌜ length (now s) ≡ 6 ⌝ }
     ensures { λ r. ⌜ r ≡ paired (numberOf (now (s .entry))) ⌝ }
 {
-    let x = word_of_six(s);
+    paired_in(word_of_six(s))
+}
+
+// The same, given with the two bytes before them.
+pub fn last_pairs(s: &[u8]) -> DigitPairs
+    requires { ⌜ length (now s) ≡ 8 ⌝ }
+    ensures { λ r. ⌜ r ≡ paired (numberOf (drop 2 (now (s .entry)))) ⌝ }
+{
+    paired_in(word_of_last_six(s))
+}
+
+fn paired_in(x: u64) -> DigitPairs
+    ensures { λ r. ⌜ r ≡ paired (numberOf (bytesOf 8 x)) ⌝ }
+{
     if !all_digits(x) {
         return DigitPairs::NoPairs;
     }
@@ -95,6 +110,20 @@ fn nine(s: &[u8]) -> Digits
     Digits::Number(wide(first - 48) * 100000000 + value_in(rest))
 }
 
+// One digit, and two words.
+fn seventeen(s: &[u8]) -> Digits
+    requires { ⌜ length (now s) ≡ 17 ⌝ }
+    ensures { λ r. ⌜ r ≡ numberOf (now (s .entry)) ⌝ }
+{
+    let first = s[0];
+    let high = word(&s[1..9]);
+    let low = word(&s[9..17]);
+    if !(in_class(Class::Digit, first) & all_digits(high) & all_digits(low)) {
+        return Digits::NotDigits;
+    }
+    Digits::Number((wide(first - 48) * 100000000 + value_in(high)) * 100000000 + value_in(low))
+}
+
 fn number_in(x: u64) -> Digits
     ensures { λ r. ⌜ r ≡ numberOf (bytesOf 8 x) ⌝ }
 {
@@ -104,7 +133,8 @@ fn number_in(x: u64) -> Digits
     Digits::Number(value_in(x))
 }
 
-fn by_bytes(s: &[u8]) -> Digits
+// Digit by digit, for few of them.
+pub fn by_bytes(s: &[u8]) -> Digits
     requires { ⌜ length (now s) ≤ 17 ⌝ }
     ensures { λ r. ⌜ r ≡ numberOf (now (s .entry)) ⌝ }
 {

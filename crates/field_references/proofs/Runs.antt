@@ -1,9 +1,9 @@
--- Neighbours that join, with a digit at the end, are one run of digits at that end and blanks elsewhere.
+-- Neighbours that join, with a digit at the end, are one run of digits at that end and blanks elsewhere; with a blank at the right end they are all blank.
 -- Assumes nothing.
 use Prim.Native.Nat.{ℕ, zero, suc, _+_, _-_, _≤_, _<_}
 use mathlib.Core.Path.{_≡_, refl, ap, ap₂, sym, _∙_}
 use mathlib.Core.List.{List, [], _∷_}
-use mathlib.Core.Bool.{Bool, true, false, _&&_, _||_, and-true, and-false, and-comm, or-false, false≢true}
+use mathlib.Core.Bool.{Bool, true, false, _&&_, _||_, and-true, and-false, and-comm, or-false, or-comm, and-or-distrib-left, false≢true}
 use native.Mathlib.Numerals.{add-one}
 use native.Mathlib.Nat.{not-suc-le-zero}
 use native.Mathlib.Omega.{arith}
@@ -12,7 +12,8 @@ use lib.Dec.{eqb}
 use lib.ListN.{length, getD, drop, drop-of-length-le}
 use lib.Seq.{drop-cons}
 use Rattle.choice.specs.Choice.{if_then_else_}
-use Rattle.field_bytes.specs.Bytes.{every, isDigit, isBlank}
+use Rattle.field_bytes.specs.Bytes.{every, isDigit, isBlank, isDigitOrBlank}
+use Rattle.field_bytes.proofs.Tests.{and-right}
 use Rattle.field_references.specs.Kids.{atRight, atLeft, isReference}
 use Rattle.field_references.specs.OnTheWay.{joins, chainFrom, chain}
 use Rattle.field_references.specs.declared.Side.the-variants.{Left, Right}
@@ -67,6 +68,20 @@ right-run a [] = right-one (isBlank a) (isDigit a) (blank-no-digit a)
 right-run a (b ∷ s) =
     right-more (isBlank a) (isDigit a) (isBlank b) (isDigit b) (chainFrom (joins Right) b s) (isDigit (last-of b s)) (atRight s) (every isDigit s) (digit-no-blank b) (right-run b s)
 
+-- the same with a blank at the end: behind a digit only digits join, so all are blank
+blank-more : (blank digits rest last blanks : Bool) → (digits ≡ true → blanks ≡ false)
+    → rest && last ≡ blanks → (blank || digits) && rest && last ≡ blank && blanks
+blank-more true digits rest last blanks h ih = ih
+blank-more false true rest last blanks h ih = ih ∙ h refl
+blank-more false false rest last blanks h ih = refl
+
+blank-run : (a : ℕ) (s : List ℕ) → chainFrom (joins Right) a s && isBlank (last-of a s) ≡ every isBlank (a ∷ s)
+unfolding chainFrom every last-of
+blank-run a [] = sym (and-true (isBlank a))
+blank-run a (b ∷ s) =
+    let none : isDigit a && isDigit b ≡ true → every isBlank (b ∷ s) ≡ false = λ h. rw (digit-no-blank b (and-right (isDigit a) (isDigit b) h)) in
+    blank-more (isBlank a) (isDigit a && isDigit b) (chainFrom (joins Right) b s) (isBlank (last-of b s)) (every isBlank (b ∷ s)) none (blank-run b s)
+
 -- a digit run at the left: behind what is no digit only blanks join
 blanks-on : (a : ℕ) (s : List ℕ) → isDigit a ≡ false → chainFrom (joins Left) a s ≡ every isBlank s
 unfolding chainFrom every
@@ -95,12 +110,23 @@ left-run a (b ∷ s) =
     left-more (isDigit a) (isBlank b) (isDigit b) (chainFrom (joins Left) b s) (every isBlank s) (atLeft (b ∷ s)) (blank-no-digit b) (blanks-on b s) (left-run b s)
 
 -- ---- the same of a field, as the code tests it
+as-last : (test : ℕ → Bool) (a : ℕ) (s : List ℕ)
+    → chainFrom (joins Right) a s && test (getD (a ∷ s) (length (a ∷ s) - 1) 0) ≡ chainFrom (joins Right) a s && test (last-of a s)
+as-last test a s =
+    let e : length s ≡ length (a ∷ s) - 1 = omega arith in
+    ap (λ (b : ℕ). chainFrom (joins Right) a s && test b) (ap (λ (k : ℕ). getD (a ∷ s) k 0) (sym e) ∙ sym (last-at a s))
+
 pub right-is : (s : List ℕ) → 0 < length s → chain (joins Right) s && isDigit (getD s (length s - 1) 0) ≡ atRight s
 unfolding chain
 right-is [] h = absurd (not-suc-le-zero h)
-right-is (a ∷ s) h =
-    let e : length s ≡ length (a ∷ s) - 1 = omega arith in
-    ap (λ (b : ℕ). chainFrom (joins Right) a s && isDigit b) (ap (λ (k : ℕ). getD (a ∷ s) k 0) (sym e) ∙ sym (last-at a s)) ∙ right-run a s
+right-is (a ∷ s) h = as-last isDigit a s ∙ right-run a s
+
+pub blank-or-right-is : (s : List ℕ) → 0 < length s → chain (joins Right) s && isDigitOrBlank (getD s (length s - 1) 0) ≡ (every isBlank s || atRight s)
+unfolding chain
+blank-or-right-is [] h = absurd (not-suc-le-zero h)
+blank-or-right-is (a ∷ s) h =
+    as-last isDigitOrBlank a s ∙ and-or-distrib-left (chainFrom (joins Right) a s) (isDigit (last-of a s)) (isBlank (last-of a s))
+    ∙ ap₂ _||_ (right-run a s) (blank-run a s) ∙ or-comm (atRight (a ∷ s)) (every isBlank (a ∷ s))
 
 pub left-is : (s : List ℕ) → 0 < length s → chain (joins Left) s && isDigit (getD s 0 0) ≡ atLeft s
 unfolding chain

@@ -1,8 +1,10 @@
 // KIDs and references: one run of digits at an end of the field, blanks elsewhere.
 
 ghost use mathlib.Core.Path.{_≡_};
+ghost use mathlib.Core.Bool.{_||_};
 ghost use Prim.Native.Nat.{_<_};
 ghost use lib.ListN.{length};
+ghost use Rattle.field_bytes.specs.Bytes.{every, isBlank};
 ghost use Rattle.field_references.specs.Kids.{atRight, atLeft, isKid, isReference};
 ghost use Rattle.field_references.specs.OnTheWay.{runsOn, joins, chain};
 use field_bytes::classes::Class;
@@ -50,6 +52,14 @@ pub fn kid_right(s: &[u8]) -> bool
     ensures { λ r. ⌜ r ≡ atRight (now (s .entry)) ⌝ }
 {
     runs_to(Side::Right, s) & in_class(Class::Digit, s[s.len() - 1])
+}
+
+// Blank, or a KID at the right end. One pass tells both: neighbours that join and end in a blank are all blank.
+pub fn blank_or_right(s: &[u8]) -> bool
+    requires { ⌜ 0 < length (now s) ⌝ }
+    ensures { λ r. ⌜ r ≡ (every isBlank (now (s .entry)) || atRight (now (s .entry))) ⌝ }
+{
+    runs_to(Side::Right, s) & in_class(Class::DigitOrBlank, s[s.len() - 1])
 }
 
 // A KID at the left end.

@@ -4,11 +4,11 @@ use Prim.Native.Nat.{ℕ, zero, suc, _+_, _-_, _*_, _/_, _%_, _^_, _≤_, _<_}
 use mathlib.Core.Path.{_≡_, refl, ap, ap₂, sym, _∙_}
 use mathlib.Core.List.{List, [], _∷_}
 use mathlib.Core.Bool.{Bool, true, false, _&&_, not}
-use native.Mathlib.Nat.{mod-lt, not-suc-le-zero}
+use native.Mathlib.Nat.{mod-lt, not-suc-le-zero, pow-suc}
 use native.Mathlib.Decide.{decLt}
 use native.Mathlib.Omega.{arith}
 use borrow.Author.Tests.{eqb-true, eqb-false, eq-eqb, ne-eqb}
-use lib.Bits.{bitAnd, and-block, and-zero-r, and-mask, and-le-r}
+use lib.Bits.{bitAnd, bitOr, bitXor, and-block, or-block, xor-block, or-lt, xor-lt, and-zero-r, and-mask, and-le-r}
 use lib.Dec.{eqb, lit<}
 use lib.Pow.{split}
 use Rattle.field_bytes.specs.Bytes.{every, isDigit}
@@ -16,9 +16,12 @@ use Rattle.field_words.specs.Words.{bytesOf}
 use Rattle.field_bytes.proofs.Tests.{and-left, and-right}
 use Rattle.field_bytes.proofs.Every.{digit-low, digit-high}
 
--- ---- one byte: both halves are right where it is a digit, which is tried for each of the 256
+-- ---- one byte: nothing strays into the high half where it is a digit, which is tried for each of the 256
+abbrev strayed : ℕ → ℕ
+strayed b = bitOr (bitXor b 48) (bitAnd b 15 + 6)
+
 abbrev halves : ℕ → Bool
-halves b = eqb (bitAnd b 240) 48 && eqb (bitAnd (bitAnd b 15 + 6) 240) 0
+halves b = eqb (bitAnd (strayed b) 240) 0
 
 abbrev agree : Bool → Bool → Bool
 agree true b = b
@@ -62,6 +65,17 @@ eqb-parts a b c d h k = go (eqb b d) (eqb a c) refl refl
     go true false p q = ne-eqb (a * 256 + b) (c * 256 + d) (λ e. eqb-false a c q (omega arith))
     go false u p q = ne-eqb (a * 256 + b) (c * 256 + d) (λ e. eqb-false b d p (omega arith))
 
+-- a number of n bytes is that of n equal bytes where each of them is
+pub all-equal : (v n x : ℕ) → v < 256 → x < 256 ^ n → eqb x (times n v) ≡ every (λ b. eqb b v) (bytesOf n x)
+unfolding times every bytesOf
+all-equal v zero x k h = eq-eqb x 0 (omega arith)
+all-equal v (suc n) x k h =
+    let fit : x < 256 ^ n * 256 = rw (pow-suc 256 n) at h in
+    let rest : x / 256 < 256 ^ n = omega arith in
+    ap (λ (z : ℕ). eqb z (times (suc n) v)) (sym (split x 8))
+    ∙ eqb-parts (x / 256) (x % 256) (times n v) v (mod-lt x (lit< tt)) k
+    ∙ ap (λ (t : Bool). eqb (x % 256) v && t) (all-equal v n (x / 256) k rest)
+
 -- a mask of equal bytes, taken byte by byte
 masked : (n a b m : ℕ) → b < 256 → m < 256 → bitAnd (a * 256 + b) (times (suc n) m) ≡ bitAnd a (times n m) * 256 + bitAnd b m
 unfolding times
@@ -74,42 +88,38 @@ masked-is n a b m v h k l =
     ap (λ (z : ℕ). eqb z (times (suc n) v)) (masked n a b m h k)
     ∙ eqb-parts (bitAnd a (times n m)) (bitAnd b m) (times n v) v (omega (arith, and-le-r b m)) l
 
--- the two tests of a word of n bytes
-abbrev highs : ℕ → ℕ → Bool
-highs n x = eqb (bitAnd x (times n 240)) (times n 48)
+-- the same of a word of n bytes, and its test
+abbrev stray : ℕ → ℕ → ℕ
+stray n x = bitOr (bitXor x (times n 48)) (bitAnd x (times n 15) + times n 6)
 
-abbrev lows : ℕ → ℕ → Bool
-lows n x = eqb (bitAnd (bitAnd x (times n 15) + times n 6) (times n 240)) (times n 0)
+abbrev clear : ℕ → ℕ → Bool
+clear n x = eqb (bitAnd (stray n x) (times n 240)) (times n 0)
 
-lows-step : (n a b : ℕ) → b < 256 → lows (suc n) (a * 256 + b) ≡ eqb (bitAnd (bitAnd b 15 + 6) 240) 0 && lows n a
+strayed-small : (b : ℕ) → b < 256 → bitAnd b 15 + 6 < 256
+strayed-small b h = omega (arith, and-le-r b 15)
+
+stray-step : (n a b : ℕ) → b < 256 → stray (suc n) (a * 256 + b) ≡ stray n a * 256 + strayed b
 unfolding times
-lows-step n a b h =
+stray-step n a b h =
     let e : bitAnd a (times n 15) * 256 + bitAnd b 15 + (times n 6 * 256 + 6) ≡ (bitAnd a (times n 15) + times n 6) * 256 + (bitAnd b 15 + 6) = omega arith in
-    ap (λ (z : ℕ). eqb (bitAnd (z + times (suc n) 6) (times (suc n) 240)) (times (suc n) 0)) (masked n a b 15 h (lit< tt))
-    ∙ ap (λ (z : ℕ). eqb (bitAnd z (times (suc n) 240)) (times (suc n) 0)) e
-    ∙ masked-is n (bitAnd a (times n 15) + times n 6) (bitAnd b 15 + 6) 240 0 (omega (arith, and-le-r b 15)) (lit< tt) (lit< tt)
+    ap₂ bitOr (xor-block 8 a (times n 48) b 48 h (lit< tt)) (ap (λ (z : ℕ). z + times (suc n) 6) (masked n a b 15 h (lit< tt)) ∙ e)
+    ∙ or-block 8 (bitXor a (times n 48)) (bitAnd a (times n 15) + times n 6) (bitXor b 48) (bitAnd b 15 + 6) (xor-lt 8 b 48 h (lit< tt)) (strayed-small b h)
 
-crossed : (a b c d : Bool) → (a && b) && (c && d) ≡ (a && c) && (b && d)
-crossed true true c d = refl
-crossed true false true d = refl
-crossed true false false d = refl
-crossed false b c d = refl
-
-tests : (n x : ℕ) → highs n x && lows n x ≡ every isDigit (bytesOf n x)
+tests : (n x : ℕ) → clear n x ≡ every isDigit (bytesOf n x)
 unfolding times every bytesOf
-tests zero x = rw (and-zero-r x)
+tests zero x = rw (and-zero-r (stray zero x))
 tests (suc n) x =
     let a = x / 256 in
     let b = x % 256 in
     let small : b < 256 = mod-lt x (lit< tt) in
-    ap (λ (z : ℕ). highs (suc n) z && lows (suc n) z) (sym (split x 8))
-    ∙ ap₂ _&&_ (masked-is n a b 240 48 small (lit< tt) (lit< tt)) (lows-step n a b small)
-    ∙ crossed (eqb (bitAnd b 240) 48) (highs n a) (eqb (bitAnd (bitAnd b 15 + 6) 240) 0) (lows n a)
+    ap (clear (suc n)) (sym (split x 8))
+    ∙ ap (λ (z : ℕ). eqb (bitAnd z (times (suc n) 240)) (times (suc n) 0)) (stray-step n a b small)
+    ∙ masked-is n (stray n a) (strayed b) 240 0 (or-lt 8 (bitXor b 48) (bitAnd b 15 + 6) (xor-lt 8 b 48 small (lit< tt)) (strayed-small b small)) (lit< tt) (lit< tt)
     ∙ ap₂ _&&_ (byte b small) (tests n a)
 
 -- the test that the code makes of eight bytes
 pub word-test : (x : ℕ)
-    → eqb (bitAnd x 0xF0F0F0F0F0F0F0F0) 0x3030303030303030 && eqb (bitAnd (bitAnd x 0x0F0F0F0F0F0F0F0F + 0x0606060606060606) 0xF0F0F0F0F0F0F0F0) 0
+    → eqb (bitAnd (bitOr (bitXor x 0x3030303030303030) (bitAnd x 0x0F0F0F0F0F0F0F0F + 0x0606060606060606)) 0xF0F0F0F0F0F0F0F0) 0
     ≡ every isDigit (bytesOf 8 x)
 unfolding times
 word-test x = tests 8 x

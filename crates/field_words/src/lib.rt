@@ -3,10 +3,10 @@
 ghost use mathlib.Core.Path.{_≡_};
 ghost use mathlib.Core.Bool.{true};
 ghost use mathlib.Core.List.{_∷_};
-ghost use Prim.Native.Nat.{_<_};
+ghost use Prim.Native.Nat.{_<_, _≤_};
 ghost use lib.Bits.{bitAnd};
-ghost use lib.ListN.{length};
-ghost use Rattle.field_bytes.specs.Bytes.{every, isDigit};
+ghost use lib.ListN.{length, drop};
+ghost use Rattle.field_bytes.specs.Bytes.{every, isDigit, isZero};
 ghost use Rattle.field_words.specs.Values.{value};
 ghost use Rattle.field_words.specs.Words.{bytesOf, twosOf, pairsOf};
 
@@ -18,13 +18,20 @@ pub fn eleven_digits(s: &[u8]) -> bool
     all_digits(word(&s[0..8])) & all_digits(word(&s[3..11]))
 }
 
-// A digit's high half is 3, and its low half is below 10: with 6 added it stays below 16.
+// Four to eight bytes are zeros: two halves, which may share bytes.
+pub fn few_zeros(s: &[u8]) -> bool
+    requires { ⌜ (4 ≤ length (now s)) × (length (now s) ≤ 8) ⌝ }
+    ensures { λ r. ⌜ r ≡ every isZero (now (s .entry)) ⌝ }
+{
+    (half(&s[0..4]) == 0x30303030) & (half(&s[s.len() - 4..]) == 0x30303030)
+}
+
+// A digit's high half is 3, and its low half is below 10: with 6 added it stays below 16. Both are told by one test.
 pub fn all_digits(x: u64) -> bool
     ensures { λ r. ⌜ r ≡ every isDigit (bytesOf 8 x) ⌝ }
 {
     let low = x & 0x0F0F0F0F0F0F0F0F;
-    (x & 0xF0F0F0F0F0F0F0F0 == 0x3030303030303030)
-        & ((low + 0x0606060606060606) & 0xF0F0F0F0F0F0F0F0 == 0)
+    ((x ^ 0x3030303030303030) | (low + 0x0606060606060606)) & 0xF0F0F0F0F0F0F0F0 == 0
 }
 
 // Eight digits become four numbers of two digits, sixteen bits each, the first lowest.
@@ -52,12 +59,20 @@ pub fn word(s: &[u8]) -> u64
     half(&s[0..4]) + half(&s[4..8]) * 0x100000000
 }
 
-// Seven bytes after the digit 0, by two halves that share a byte.
-pub fn word_of_seven(s: &[u8]) -> u64
-    requires { ⌜ length (now s) ≡ 7 ⌝ }
-    ensures { λ r. ⌜ bytesOf 8 r ≡ 48 ∷ now (s .entry) ⌝ }
+// The last seven of eight bytes after the digit 0, which takes the first one's place.
+pub fn word_of_last_seven(s: &[u8]) -> u64
+    requires { ⌜ length (now s) ≡ 8 ⌝ }
+    ensures { λ r. ⌜ bytesOf 8 r ≡ 48 ∷ drop 1 (now (s .entry)) ⌝ }
 {
-    0x30 + half(&s[0..4]) * 0x100 + half(&s[3..7]) / 0x100 * 0x10000000000
+    word(s) / 0x100 * 0x100 + 0x30
+}
+
+// The last six of eight bytes after two digits 0, which take the places of the first two.
+pub fn word_of_last_six(s: &[u8]) -> u64
+    requires { ⌜ length (now s) ≡ 8 ⌝ }
+    ensures { λ r. ⌜ bytesOf 8 r ≡ 48 ∷ 48 ∷ drop 2 (now (s .entry)) ⌝ }
+{
+    word(s) / 0x10000 * 0x10000 + 0x3030
 }
 
 // Six bytes after two digits 0, by two halves that share two bytes.

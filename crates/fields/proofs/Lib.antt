@@ -4,3 +4,5 @@ pub mod Every
 pub mod Values
 pub mod Width
 pub mod Weights
+pub mod Behind
+pub mod Inner

@@ -2,10 +2,11 @@
 // the definitions that other crates name are passed on here.
 
 ghost use mathlib.Core.Path.{_≡_};
+ghost use mathlib.Core.Bool.{_||_};
 ghost use Prim.Native.Nat.{_+_, _≤_};
 ghost use lib.ListN.{length};
 ghost use Rattle.limits.specs.Limits.{recordBytes};
-ghost use Rattle.field_bytes.specs.Bytes.{every, isZero, same, part, Inside};
+ghost use Rattle.field_bytes.specs.Bytes.{every, isZero, isBlank, same, part, Inside};
 ghost use Rattle.field_bytes.specs.Classes.{inClass};
 ghost use Rattle.field_digits.specs.Numbers.{numberOf, paired, written, codeOf};
 ghost use Rattle.field_accounts.specs.Accounts.{accountOf, isRight};
@@ -21,15 +22,32 @@ pub fn number_at(r: &[u8], from: usize, to: usize) -> Digits
     requires { ⌜ Inside from to (now r) × (to ≤ from + 16) ⌝ }
     ensures { λ d. ⌜ d ≡ numberOf (part from to (now (r .entry))) ⌝ }
 {
+    // Seven digits are read with the byte before them, as one word.
+    if 1 < from {
+        if to - from == 6 {
+            return field_digits::last_seven(&r[from - 2..to]);
+        }
+    }
     field_digits::number(&r[from - 1..to])
 }
 
-// Six digits two by two.
+// A number of few digits, read one by one.
+pub fn few_digits_at(r: &[u8], from: usize, to: usize) -> Digits
+    requires { ⌜ Inside from to (now r) × (to ≤ from + 16) ⌝ }
+    ensures { λ d. ⌜ d ≡ numberOf (part from to (now (r .entry))) ⌝ }
+{
+    field_digits::by_bytes(&r[from - 1..to])
+}
+
+// Six digits two by two, read with the two bytes before them, as one word, where there are two.
 pub fn pairs_at(r: &[u8], from: usize) -> DigitPairs
     requires { ⌜ Inside from (from + 5) (now r) ⌝ }
     ensures { λ d. ⌜ d ≡ paired (numberOf (part from (from + 5) (now (r .entry)))) ⌝ }
 {
-    field_digits::pairs(&r[from - 1..from + 5])
+    if from < 3 {
+        return field_digits::pairs(&r[from - 1..from + 5]);
+    }
+    field_digits::last_pairs(&r[from - 3..from + 5])
 }
 
 // A code of two digits as a number, or 100.
@@ -50,6 +68,14 @@ pub fn all_at(class: Class, r: &[u8], from: usize, to: usize) -> bool
     ensures { λ b. ⌜ b ≡ every (inClass class) (part from to (now (r .entry))) ⌝ }
 {
     field_bytes::classes::all_in(class, &r[from - 1..to])
+}
+
+// Zeros in four to eight positions.
+pub fn few_zeros_at(r: &[u8], from: usize, to: usize) -> bool
+    requires { ⌜ Inside from to (now r) × (from + 3 ≤ to) × (to ≤ from + 7) ⌝ }
+    ensures { λ b. ⌜ b ≡ every isZero (part from to (now (r .entry))) ⌝ }
+{
+    field_words::few_zeros(&r[from - 1..to])
 }
 
 // Zeros up to the end of a record: its last byte is the line feed.
@@ -103,6 +129,14 @@ pub fn kid_right_at(r: &[u8], from: usize, to: usize) -> bool
     ensures { λ b. ⌜ b ≡ atRight (part from to (now (r .entry))) ⌝ }
 {
     field_references::kid_right(&r[from - 1..to])
+}
+
+// Blank, or a KID at the right end.
+pub fn blank_or_right_at(r: &[u8], from: usize, to: usize) -> bool
+    requires { ⌜ Inside from to (now r) ⌝ }
+    ensures { λ b. ⌜ b ≡ (every isBlank (part from to (now (r .entry))) || atRight (part from to (now (r .entry)))) ⌝ }
+{
+    field_references::blank_or_right(&r[from - 1..to])
 }
 
 pub fn reference_at(r: &[u8], from: usize, to: usize) -> bool

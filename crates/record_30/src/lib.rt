@@ -12,7 +12,6 @@ ghost use Rattle.rules.specs.Layouts.{head30, tail30};
 ghost use Rattle.record_30.specs.Paid.{RestBy, PaidBy};
 use dates::Date;
 use dates::Window;
-use field_bytes::classes::Class;
 use figures::amounts::Amount;
 use figures::counts::TransactionNumber;
 use figures::totals::Totals;
@@ -52,17 +51,18 @@ fn head(r: &[u8], a: Assignment) -> Finding
     )
 }
 
-// Fields 9 and 10. Where both hold, no fault is looked for.
+// Fields 9 and 10.
 fn tail(r: &[u8], service: u8) -> Finding
     requires { ⌜ (length (now r) ≡ recordBytes) × (service ≡ serviceCode (now r)) ⌝ }
     ensures { λ x. ⌜ ((f : Totals) (ks : List ℕ) → x ≡ firstFault f ks (now (r .entry)) (tail30 (now (r .entry)))) ⌝ }
 {
-    let kid = record_30_fields::kid_sound(r, service);
-    let zero = fields::all_at(Class::Zero, r, 75, 80);
-    if kid & zero {
-        return Finding::Sound;
+    if !record_30_fields::kid_sound(r, service) {
+        return Finding::Fault(8, 9);
     }
-    Finding::Sound.demand(kid, 8, 9).demand(zero, 7, 10)
+    if !fields::few_zeros_at(r, 75, 80) {
+        return Finding::Fault(7, 10);
+    }
+    Finding::Sound
 }
 
 // A record 30 with a fault brings nothing. The fault is handed on as its two numbers: a copied finding would go through memory for every record.
@@ -88,8 +88,6 @@ fn behind_number(
     requires { ⌜ (length (now r) ≡ recordBytes) × (serviceCode (now r) ≡ codeFor (a .service)) ⌝ }
     ensures { λ x. ⌜ ((ks : List ℕ) → RestBy w a file ks (now (r .entry)) number x) ⌝ }
 {
-    // Read first and looked at third: reading the amount takes longest, and can go on while the other fields are looked at.
-    let priced = record_30_values::amount(r, a, file);
     let dated = record_30_values::date(r, w, a);
     let date_found = dated.finding;
     if let Finding::Fault(fault, field) = date_found {
@@ -101,6 +99,7 @@ fn behind_number(
     if let Finding::Fault(fault, field) = party_found {
         return wrong(fault, field);
     }
+    let priced = record_30_values::amount(r, a, file);
     let amount_found = priced.finding;
     if let Finding::Fault(fault, field) = amount_found {
         return wrong(fault, field);

@@ -9,7 +9,7 @@ ghost use lib.ListN.{length};
 ghost use Rattle.limits.specs.Limits.{recordBytes};
 ghost use Rattle.fields.specs.Bytes.{part};
 ghost use Rattle.fields.specs.Accounts.{isNumber};
-ghost use Rattle.fields.specs.Kids.{atRight, isReference};
+ghost use Rattle.fields.specs.Kids.{isReference};
 ghost use Rattle.layout.specs.Rows.{member, firstFault};
 ghost use Rattle.rules.specs.Codes.{serviceCode, typeCode};
 ghost use Rattle.rules.specs.Payments.{typesFor, isType, kidForm};
@@ -78,24 +78,13 @@ pub fn party(r: &[u8], service: u8) -> Finding
     layout::account_found(account, 7)
 }
 
-// A KID of service 01, which takes only the right end.
-fn charge_kid(r: &[u8]) -> bool
-    requires { ⌜ length (now r) ≡ recordBytes ⌝ }
-    ensures { λ x. ⌜ x ≡ atRight (part 50 74 (now (r .entry))) ⌝ }
-{
-    fields::kid_right_at(r, 50, 74)
-}
-
 // Field 9, by service and type.
 pub fn kid_sound(r: &[u8], service: u8) -> bool
     requires { ⌜ (length (now r) ≡ recordBytes) × (service ≡ serviceCode (now r)) ⌝ }
     ensures { λ x. ⌜ x ≡ kidForm (serviceCode (now (r .entry))) (typeCode (now (r .entry))) (part 50 74 (now (r .entry))) ⌝ }
 {
     if service == 1 {
-        if fields::all_at(Class::Blank, r, 50, 74) {
-            return true;
-        }
-        return charge_kid(r);
+        return fields::blank_or_right_at(r, 50, 74);
     }
     if fields::code_at(r, 5) == 12 {
         return fields::kid_at(r, 50);

@@ -4,7 +4,7 @@ ghost use mathlib.Core.Path.{_≡_};
 ghost use Prim.Native.Nat.{ℕ, _<_};
 ghost use lib.ListN.{length};
 ghost use Rattle.limits.specs.Limits.{recordBytes};
-ghost use Rattle.dates.specs.Dates.{readDay};
+ghost use Rattle.dates.specs.Dates.{dayTold, readDay};
 ghost use Rattle.fields.specs.Numbers.{pairsOf};
 ghost use Rattle.rules.specs.Payments.{ownLimit, limitFor};
 ghost use Rattle.record_30_values.specs.Values.{NumberedBy, DatedBy, PricedBy};
@@ -57,15 +57,22 @@ pub fn number(r: &[u8], a: Assignment) -> Numbered
     }
 }
 
-// The date whose day, month and year are numbers of two digits, side by side.
+// The date whose day, month and year are numbers of two digits, side by side; 0 where they are none.
+fn date_in(pairs: u64) -> Date
+    ensures { λ x. ⌜ ((n : ℕ) → n < 1000000 → pairs ≡ pairsOf n → dayTold x ≡ readDay n) ⌝ }
+{
+    dates::date_or_none(
+        2000 + pairs / 0x1000000000000 % 0x100,
+        pairs / 0x100000000 % 0x100,
+        pairs / 0x10000 % 0x100,
+    )
+}
+
+// The same as a day.
 pub fn day_in(pairs: u64) -> Day
     ensures { λ x. ⌜ ((n : ℕ) → n < 1000000 → pairs ≡ pairsOf n → x ≡ readDay n) ⌝ }
 {
-    dates::day_of(
-        2000 + pairs / 0x1000000000000,
-        pairs / 0x100000000 % 0x10000,
-        pairs / 0x10000 % 0x10000,
-    )
+    dates::day_told(date_in(pairs))
 }
 
 // Field 6, a date that is in time for the service.
@@ -79,12 +86,13 @@ pub fn date(r: &[u8], w: Window, a: Assignment) -> Dated
             date: Date(0),
         };
     };
-    let Day::On(date) = day_in(pairs) else {
+    let date = date_in(pairs);
+    if date.0 == 0 {
         return Dated {
             finding: Finding::Fault(9, 6),
             date: Date(0),
         };
-    };
+    }
     let service = a.service;
     Dated {
         finding: Finding::Sound.demand(w.in_time(service, date), 10, 6),

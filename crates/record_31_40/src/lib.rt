@@ -38,7 +38,7 @@ fn sound31(r: &[u8]) -> bool
     requires { ⌜ length (now r) ≡ recordBytes ⌝ }
     ensures { λ x. ⌜ (x ≡ true → (f : Totals) (ks : List ℕ) → AllHold f ks (now (r .entry)) texts31) ⌝ }
 {
-    fields::all_at(Class::Text, r, 16, 79) & fields::all_at(Class::Zero, r, 76, 80)
+    fields::all_at(Class::Text, r, 16, 79) & fields::few_zeros_at(r, 76, 80)
 }
 
 // Fields 6 to 9 of a record 31, for their first fault.

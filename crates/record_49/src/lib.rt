@@ -92,7 +92,7 @@ fn number_up_to(r: &[u8], from: usize, to: usize, most: u64) -> Bounded
     requires { ⌜ Inside from to (now r) × (to ≤ from + 16) ⌝ }
     ensures { λ n. ⌜ n ≡ upTo most (part from to (now (r .entry))) ⌝ }
 {
-    let Digits::Number(n) = fields::number_at(r, from, to) else {
+    let Digits::Number(n) = fields::few_digits_at(r, from, to) else {
         return Bounded::OutOfBounds;
     };
     if most < n {

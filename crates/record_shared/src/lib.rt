@@ -6,11 +6,10 @@ ghost use mathlib.Core.List.{List};
 ghost use Prim.Native.Nat.{ℕ, _<_};
 ghost use lib.ListN.{length};
 ghost use Rattle.limits.specs.Limits.{recordBytes};
-ghost use Rattle.fields.specs.Words.{bytesOf};
 ghost use Rattle.figures.specs.Figures.{transactionNumber};
 ghost use Rattle.layout.specs.Rows.{firstFault, AllHold};
 ghost use Rattle.rules.specs.Layouts.{outside, belongs, sameNumber, repeats};
-ghost use Rattle.record_shared.specs.Heads.{headOf, Belonging};
+ghost use Rattle.record_shared.specs.Heads.{Belonging};
 use field_digits::Digits;
 use figures::counts::TransactionNumber;
 use figures::totals::Totals;
@@ -47,22 +46,16 @@ pub fn belonging(r: &[u8], service: Service) -> Finding
         .demand(fields::code_at(r, 3) == services::code_for(service), 12, 2)
 }
 
-// NY and the code of the service, as one number.
-fn head_of(service: Service) -> u64
-    ensures { λ x. ⌜ bytesOf 4 x ≡ headOf service ⌝ }
-{
-    match service {
-        Service::Autogiro => 0x3130594E,
-        Service::Remittance => 0x3430594E,
-    }
-}
-
-// Fields 1 and 2 belong to an assignment of the service: told by one comparison.
+// Fields 1 and 2 belong to an assignment of the service: told by one comparison, of NY and the service's code as one number.
 pub fn belongs_to(r: &[u8], service: Service) -> bool
     requires { ⌜ length (now r) ≡ recordBytes ⌝ }
     ensures { λ x. ⌜ (x ≡ true → Belonging service (now (r .entry))) ⌝ }
 {
-    fields::four_at(r, 1) == head_of(service)
+    let four = fields::four_at(r, 1);
+    match service {
+        Service::Autogiro => four == 0x3130594E,
+        Service::Remittance => four == 0x3430594E,
+    }
 }
 
 // Field 5, the number of the transaction at hand.
@@ -88,11 +81,14 @@ pub fn repeats(r: &[u8], service: Service, code: u8, number: TransactionNumber) 
     here & numbered(n).equals(number)
 }
 
-// Fields 1 to 5 of 31, 40, 41 and 49, which repeat their record 30.
+// Fields 1 to 5 of 31, 40, 41 and 49, which repeat their record 30. Where all of them do, no fault is looked for.
 pub fn repeating(r: &[u8], service: Service, code: u8, number: TransactionNumber) -> Finding
     requires { ⌜ length (now r) ≡ recordBytes ⌝ }
     ensures { λ x. ⌜ ((a : Assignment) → a .service ≡ service → a .code ≡ code → a .number ≡ number → (f : Totals) (ks : List ℕ) → x ≡ firstFault f ks (now (r .entry)) (repeats a (now (r .entry)))) ⌝ }
 {
+    if repeats(r, service, code, number) {
+        return Finding::Sound;
+    }
     let head = belonging(r, service).demand(fields::code_at(r, 5) == code, 12, 3);
     match head {
         Finding::Fault(_number, _field) => head,

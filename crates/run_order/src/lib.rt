@@ -85,13 +85,19 @@ fn is_draft(mode: Mode) -> bool
 fn whole_behind(before: Kind, service: Service, code: u8) -> bool
     ensures { λ x. ⌜ x ≡ wholeBehind (numberOfKind before) (isRemittance service) (eqb code 4) (eqb code 16) ⌝ }
 {
-    let last = number_of(before);
-    let remittance = is_remittance(service);
-    (last == 40)
-        | (last == 41)
-        | (last == 49)
-        | (last == 50)
-        | ((last == 31) & !(remittance & ((code == 4) | (code == 16))))
+    match before {
+        Kind::R31 => !(is_remittance(service) & ((code == 4) | (code == 16))),
+        Kind::R40 => true,
+        Kind::R41 => true,
+        Kind::R49 => true,
+        Kind::R50 => true,
+        Kind::R10 => false,
+        Kind::R20 => false,
+        Kind::R30 => false,
+        Kind::R88 => false,
+        Kind::R89 => false,
+        Kind::Other => false,
+    }
 }
 
 // An address or a 49 has come: a 49 may follow.

@@ -1,5 +1,6 @@
 //! Makes the outside vectors: keeps those for checking, makes those for
-//! closing, joining, parting and making anew, and answers every one of them.
+//! closing, joining, parting and making anew, and those on wide amounts behind
+//! them, and answers every one of them.
 //!
 //! `vectors FOLDER`: the vectors lie in FOLDER/data, the lines in FOLDER/stdout.
 
@@ -800,6 +801,118 @@ fn makings() -> Vec<Case> {
     [sound_makings(), message_makings(), refused_makings(), refused_lines()].concat()
 }
 
+/// A file whose fields of 17 places hold this amount, or 5 more: 1 10, 2 20 (04), 3 30 (16), 4 31,
+/// 5 50, 6 50 (17), 7 88, 8 20 (01), 9 30, 10 31, 11 88, 12 89. Only 3 and 7 hold 5.
+fn wide(amount: u64) -> Vec<u8> {
+    let [first, second] = transfer("01", 1, "011125", amount);
+    let behind = [r20("01", 1, 2), first, second];
+    closed(&group(5, &[("16", amount + 5), ("17", amount)], &behind))
+}
+
+/// Amounts of mostly zeros, and of none.
+const FEW_DIGITS: u64 = 80_000;
+const ALL_DIGITS: u64 = 12_345_678_987_654_321;
+
+/// Where such a file has its wide fields, each a record and a position: 30, 50, 88, 89.
+const WIDE_FIELDS: [(usize, usize); 4] = [(9, 33), (5, 41), (11, 25), (12, 25)];
+
+/// The neighbours of the digits, bytes whose lower half is a digit's, and signs.
+const NO_DIGITS: &[u8; 9] = b"/: A\x00\xB0\xB9+-";
+
+/// A byte that is no digit at each place of each wide field, among zeros and digits by turns.
+fn no_digits() -> Vec<Vec<u8>> {
+    let files = [wide(FEW_DIGITS), wide(ALL_DIGITS)];
+    let mut damaged = vec![];
+    for (row, (record, from)) in (0..).zip(WIDE_FIELDS) {
+        for place in 0..17 {
+            let (file, byte) = (&files[(row + place) % 2], NO_DIGITS[(2 * row + place) % 9]);
+            damaged.push(with_bytes(file, record, from + place, &[byte]));
+        }
+    }
+    damaged
+}
+
+/// Two such bytes, one in the first nine places and one in the last eight. Reckoned with as
+/// digits, `/:` is 00; two high bits eight places apart could put each other out.
+fn two_no_digits() -> Vec<Vec<u8>> {
+    let pairs = [
+        [(8, b'/'), (9, b':')],
+        [(1, 0xB0), (9, 0xB0)],
+        [(8, 0xB9), (16, 0xB9)],
+        [(0, b' '), (10, 0x00)],
+    ];
+    let mut damaged = vec![];
+    for ((record, from), pair) in WIDE_FIELDS.into_iter().zip(pairs) {
+        let mut file = wide(FEW_DIGITS);
+        for (place, byte) in pair {
+            file = with_bytes(&file, record, from + place, &[byte]);
+        }
+        damaged.push(file);
+    }
+    damaged
+}
+
+/// A 30 with a fault in its amount and one in another field: the lower number's is told.
+fn amounts_in_order() -> Vec<Vec<u8>> {
+    let both = |file: &[u8], record, amount: &str, (from, text): (usize, &str)| {
+        with(&with(file, record, 33, amount), record, from, text)
+    };
+    // Fields 5, 6 and 7, each with every number it can be refused with; 9 and 10.
+    let fields = [
+        (9, "000000x"),
+        (9, "0000000"),
+        (16, "01 125"),
+        (16, "310425"),
+        (16, "021026"),
+        (22, "1234567890x"),
+        (22, "12345678901"),
+        (74, "1"),
+        (80, "1"),
+    ];
+    // No digits; past the assignment's limit.
+    let amounts = ["000000:0000080000", "00010000000000000"];
+    let of_amount = |amount| fields.map(|field| both(&whole(), 3, amount, field));
+    let mut damaged = amounts.map(of_amount).concat();
+    // Past the own limit of type 04, whose field 7 is no account.
+    let fields = [(15, "7"), (16, "310425"), (22, "1234567890x"), (74, "1"), (80, "1")];
+    let own = |field| both(&every_kind(), 7, "00000010000000000", field);
+    damaged.extend(fields.map(own));
+    damaged
+}
+
+/// Drafts with amounts of every width, and of nines about eight digits. Those past the limit of
+/// service 04 stand in service 01 too.
+fn every_width() -> Vec<Vec<u8>> {
+    let powers = (0..17).map(|zeros| 10u64.pow(zeros));
+    let nines = [99_999_999, 999_999_999, 9_999_999_999_999_999];
+    let (amounts, most): (Vec<u64>, _) = (powers.chain(nines).collect(), 90_000_000_000_000_000);
+    let all = || amounts.iter().copied().chain([most]);
+    let mut drafts: Vec<Vec<u8>> = all().map(|amount| transfers("04", &[amount])).collect();
+    let over = all().filter(|&amount| amount > 9_999_999_999_999);
+    drafts.extend(over.map(|amount| transfers("01", &[amount])));
+    // The same amounts in records 50. One misread is not made good by another.
+    let mut parts: Vec<(&str, u64)> = amounts.iter().map(|&amount| ("16", amount)).collect();
+    parts.push(("17", amounts.iter().sum::<u64>() - 5));
+    drafts.push(group(5, &parts, &[]));
+    drafts.push(group(5, &[("16", most), ("17", most - 5)], &[]));
+    // The files that are damaged above.
+    drafts.extend([draft(&wide(FEW_DIGITS)), draft(&wide(ALL_DIGITS))]);
+    drafts
+}
+
+fn wide_checkings() -> Vec<Case> {
+    let widths = every_width().iter().map(|draft| closed(draft)).collect();
+    [no_digits(), two_no_digits(), amounts_in_order(), widths]
+        .concat()
+        .into_iter()
+        .map(|file| Case::new(Operation::Check, DAY, file))
+        .collect()
+}
+
+fn wide_closings() -> Vec<Case> {
+    every_width().iter().map(|draft| close(draft)).collect()
+}
+
 /// A name has four digits.
 const NAMES: usize = 10_000;
 
@@ -827,6 +940,8 @@ fn main() -> io::Result<()> {
         ("join", [sound_joinings(), refused_joinings()].concat()),
         ("part", partings()),
         ("make", makings()),
+        ("check", wide_checkings()),
+        ("close", wide_closings()),
     ];
     println!("{kept} check vectors kept");
     let mut index = kept;

@@ -6,7 +6,7 @@ use native.Mathlib.Omega.{arith}
 use Rattle.fields.specs.Bytes.{every, isText, part}
 use Rattle.fields.proofs.Tests.{and-left, and-right}
 use Rattle.layout.specs.Rows.{AllHold}
-use Rattle.record_31_40.proofs.Inner.{inner}
+use Rattle.fields.proofs.Inner.{inner}
 use borrow.Author.Needs.{needs}
 use Rattle.make_rules.proofs.sound_texts.Statement.{statement}
 use Rattle.make_rules.proofs.sound_texts.Tie as tie

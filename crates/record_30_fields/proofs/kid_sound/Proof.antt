@@ -1,4 +1,4 @@
--- Field 9 in four cases: blank or a KID for service 01, type 12 of another service, and every other type.
+-- Field 9 in three cases: service 01, type 12 of another service, and every other type.
 -- Assumes nothing.
 use mathlib.Core.Path.{sym}
 use borrow.Author.Tests.{ne-eqb}
@@ -9,27 +9,18 @@ use Rattle.record_30_fields.proofs.kid_sound.Tie as tie
 use Rattle.record_30_fields.proofs.kid_sound.Reads as reads
 use Rattle.record_30_fields.proofs.kid_sound.Lts as lts
 use Rattle.fields.proofs.all_at.Reads as all-at-reads
+use Rattle.fields.proofs.blank_or_right_at.Reads as blank-or-right-at-reads
 use Rattle.fields.proofs.code_at.Reads as code-at-reads
 use Rattle.fields.proofs.kid_at.Reads as kid-at-reads
-use Rattle.record_30_fields.proofs.charge_kid.Reads as charge-kid-reads
 
-all-at-requires : tie.Need-all-at-requires
-all-at-requires c κs = search needs
+blank-or-right-at-requires : tie.Need-blank-or-right-at-requires
+blank-or-right-at-requires c κs = search needs
 
 returns : tie.Need-returns
 unfolding kidForm
 returns c =
     let p = c .before in
-    simp (sym (p .before .before .before .pre .1), p .before .if1 .taken, sym (p .all-at .ensures), c .if2 .taken)
-
-charge-kid-requires : tie.Need-charge-kid-requires
-charge-kid-requires c κs = search needs
-
-returns-2 : tie.Need-returns-2
-unfolding kidForm
-returns-2 c =
-    let p = c .before .before in
-    simp (c .charge-kid .ensures, sym (p .before .before .before .pre .1), p .before .if1 .taken, sym (p .all-at .ensures), c .before .if2 .left)
+    simp (c .blank-or-right-at .ensures, sym (p .before .before .pre .1), p .if1 .taken)
 
 code-at-requires : tie.Need-code-at-requires
 code-at-requires c κs = search needs
@@ -37,31 +28,29 @@ code-at-requires c κs = search needs
 kid-at-requires : tie.Need-kid-at-requires
 kid-at-requires c κs = search needs
 
+returns-2 : tie.Need-returns-2
+unfolding kidForm
+returns-2 c =
+    let p = c .before .before in
+    simp (c .kid-at .ensures, sym (p .code-at .ensures), sym (p .before .before .before .pre .1), ne-eqb _ _ (p .before .if1 .left), c .before .if2 .taken)
+
+all-at-requires : tie.Need-all-at-requires
+all-at-requires c κs = search needs
+
 returns-3 : tie.Need-returns-3
 unfolding kidForm
 returns-3 c =
     let p = c .before .before in
-    simp (c .kid-at .ensures, sym (p .code-at .ensures), sym (p .before .before .before .pre .1), ne-eqb _ _ (p .before .if1 .left), c .before .if3 .taken)
-
-all-at-requires-2 : tie.Need-all-at-requires-2
-all-at-requires-2 c κs = search needs
-
-returns-4 : tie.Need-returns-4
-unfolding kidForm
-returns-4 c =
-    let p = c .before .before in
-    simp (c .all-at2 .ensures, sym (p .code-at .ensures), sym (p .before .before .before .pre .1), ne-eqb _ _ (p .before .if1 .left), ne-eqb _ _ (c .before .if3 .left))
+    simp (c .all-at .ensures, sym (p .code-at .ensures), sym (p .before .before .before .pre .1), ne-eqb _ _ (p .before .if1 .left), ne-eqb _ _ (c .before .if2 .left))
 
 pub kid-sound-spec : {M : Type 1} → statement M
 kid-sound-spec =
     tie.close
     (tie.spec
-    all-at-requires
+    blank-or-right-at-requires
     returns
-    charge-kid-requires
-    returns-2
     code-at-requires
     kid-at-requires
-    returns-3
-    all-at-requires-2
-    returns-4)
+    returns-2
+    all-at-requires
+    returns-3)

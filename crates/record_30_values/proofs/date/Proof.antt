@@ -1,19 +1,34 @@
 -- Field 6: no digits and no date end the stage; a date leaves the row of its time, and the date read is the one brought.
 -- Assumes nothing.
-use mathlib.Core.Path.{ap, sym, _∙_}
-use Rattle.fields.specs.Bytes.{part}
-use Rattle.fields.specs.Numbers.{value}
-use Rattle.record_30_values.proofs.Days.{six-digits, pairs-pass, pairs-fail}
-use borrow.Author.Needs.{needs}
+use mathlib.Core.Path.{_≡_, ap, sym, _∙_}
+use mathlib.Core.Bool.{true}
+use Rattle.dates.specs.Dates.{dayTold, readDay}
 use Rattle.dates.specs.Windows.{inTime}
 use Rattle.dates.specs.declared.Date.{Date}
+use Rattle.dates.proofs.Laws.{none-told, date-told}
+use Rattle.fields.specs.Bytes.{every, isDigit, part}
+use Rattle.fields.specs.Numbers.{value}
 use Rattle.layout.specs.Findings.{demanded}
 use Rattle.layout.specs.declared.Finding.the-variants.{Sound}
-use Rattle.layout.proofs.Laws.{next, stop, demands}
+use Rattle.layout.proofs.Laws.{next, stop, demands, fault-not-sound}
 use Rattle.rules.specs.Payments.{isDay, theDate}
-use Rattle.layout.proofs.Laws.{fault-not-sound}
+use Rattle.record_30_values.proofs.Days.{pairs-fail, date-read}
+use borrow.Author.Needs.{needs}
 use Rattle.record_30_values.proofs.date.Statement.{statement}
 use Rattle.record_30_values.proofs.date.Tie as tie
+use Rattle.record_30_values.proofs.date.Reads as reads
+use Rattle.record_30_values.proofs.date.Lts as lts
+use Rattle.dates.proofs.Window.in_time.Reads as in-time-reads
+use Rattle.fields.proofs.pairs_at.Reads as pairs-at-reads
+use Rattle.layout.proofs.Finding.demand.Reads as demand-reads
+use Rattle.record_30_values.proofs.date_in.Reads as date-in-reads
+
+-- past the digits: they are, and the date that they read as is told
+read : (i : tie.After-date-in) → let r = i .before .before .before .before .before .before .args .r .now in (every isDigit (part 16 21 r) ≡ true) × (readDay (value (part 16 21 r)) ≡ dayTold (i .date-in .result))
+read i =
+    let q = i .before .before in
+    let s = q .before .before .before .before in
+    date-read (s .args .r .now) _ _ (i .date-in .result) (s .pre) (q .before .before .pairs-at .ensures) (q .pairs .given .1) (i .date-in .ensures)
 
 pairs-at-requires : tie.Need-pairs-at-requires
 pairs-at-requires c κs = search needs
@@ -31,23 +46,15 @@ returns c =
       date = λ h. absurd (fault-not-sound 8 6 h);
     }
 
-day-in-requires : tie.Need-day-in-requires
-day-in-requires c κs = search needs
-
-enum-known-date : tie.Need-enum-known-date
-enum-known-date c = search needs
-
-enum-told-2 : tie.Need-enum-told-2
-enum-told-2 c = search needs
+date-in-requires : tie.Need-date-in-requires
+date-in-requires c κs = search needs
 
 returns-2 : tie.Need-returns-2
 returns-2 c =
-    let q = c .before .before .before .before in
-    let s = q .before .before .before .before in
-    let read = pairs-pass _ _ (q .before .before .pairs-at .ensures) _ (q .pairs .given .1) in
-    let day = sym (c .before .before .day-in .ensures (value (part 16 21 (s .args .r .now))) (six-digits (s .args .r .now) (s .pre) (read .0)) (read .1)) ∙ c .enum-told2 .given .1 in
+    let i = c .before .before in
+    let day = read i .1 ∙ none-told (i .date-in .result) (c .if1 .taken) in
     record {
-      finding = λ f ks. sym (next f ks _ _ _ (read .0) ∙ stop f ks _ _ _ (ap isDay day));
+      finding = λ f ks. sym (next f ks _ _ _ (read i .0) ∙ stop f ks _ _ _ (ap isDay day));
       date = λ h. absurd (fault-not-sound 9 6 h);
     }
 
@@ -59,16 +66,13 @@ demand-requires c κs = search needs
 
 returns-3 : tie.Need-returns-3
 returns-3 c =
-    let d = c .before .before .before in
-    let q = d .before .before .before .before in
-    let s = q .before .before .before .before in
-    let a = s .args in
-    let read = pairs-pass _ _ (q .before .before .pairs-at .ensures) _ (q .pairs .given .1) in
-    let day = sym (d .before .before .day-in .ensures (value (part 16 21 (a .r .now))) (six-digits (a .r .now) (s .pre) (read .0)) (read .1)) ∙ d .date .given .1 in
+    let i = c .before .before .before .before in
+    let a = i .before .before .before .before .before .before .args in
+    let day = read i .1 ∙ date-told (i .date-in .result) (c .before .before .if1 .left) in
     record {
       finding = λ f ks.
           simp (c .demand .ensures, c .before .in-time .ensures)
-          (sym (next f ks _ _ _ (read .0) ∙ next f ks _ _ _ (ap isDay day) ∙ demands f ks _ _ ∙ ap (λ (x : Date). demanded Sound (inTime (a .w) (a .a .service) x) 10 6) (ap theDate day)));
+          (sym (next f ks _ _ _ (read i .0) ∙ next f ks _ _ _ (ap isDay day) ∙ demands f ks _ _ ∙ ap (λ (x : Date). demanded Sound (inTime (a .w) (a .a .service) x) 10 6) (ap theDate day)));
       date = λ h. sym (ap theDate day);
     }
 
@@ -80,9 +84,7 @@ date-spec =
     enum-known-pairs
     enum-told
     returns
-    day-in-requires
-    enum-known-date
-    enum-told-2
+    date-in-requires
     returns-2
     in-time-requires
     demand-requires

@@ -6,7 +6,7 @@ use native.Mathlib.Omega.{arith}
 use Rattle.fields.specs.Bytes.{every, isText, part}
 use Rattle.fields.proofs.Tests.{and-left, and-right}
 use Rattle.layout.specs.Rows.{AllHold}
-use Rattle.record_31_40.proofs.Inner.{inner}
+use Rattle.fields.proofs.Inner.{inner}
 use borrow.Author.Needs.{needs}
 use Rattle.record_31_40.proofs.sound31.Statement.{statement}
 use Rattle.record_31_40.proofs.sound31.Tie as tie
@@ -14,8 +14,8 @@ use Rattle.record_31_40.proofs.sound31.Tie as tie
 all-at-requires : tie.Need-all-at-requires
 all-at-requires c κs = search needs
 
-all-at-requires-2 : tie.Need-all-at-requires-2
-all-at-requires-2 c κs = search needs
+few-zeros-at-requires : tie.Need-few-zeros-at-requires
+few-zeros-at-requires c κs = search needs
 
 returns : tie.Need-returns
 unfolding AllHold
@@ -23,7 +23,7 @@ returns c = λ t f ks.
     let p = c .before in
     let r = p .before .before .args .r .now in
     let text = p .all-at .result in
-    let zero = c .all-at2 .result in
+    let zero = c .few-zeros-at .result in
     let h : every isText (part 16 79 r) ≡ true = sym (p .all-at .ensures) ∙ and-left text zero t in (
       inner isText 15 0 10 64 r (omega arith) h,
       (
@@ -31,7 +31,7 @@ returns c = λ t f ks.
         (
           inner isText 15 35 25 64 r (omega arith) h,
           (
-            sym (c .all-at2 .ensures) ∙ and-right text zero t,
+            sym (c .few-zeros-at .ensures) ∙ and-right text zero t,
             tt,
           ),
         ),
@@ -39,4 +39,4 @@ returns c = λ t f ks.
     )
 
 pub sound31-spec : {M : Type 1} → statement M
-sound31-spec = tie.close (tie.spec all-at-requires all-at-requires-2 returns)
+sound31-spec = tie.close (tie.spec all-at-requires few-zeros-at-requires returns)
