@@ -1,16 +1,13 @@
 /* pay.h: the pay office's operations for programs in C99, and for what can call C.
  *
- * The archive libpay_c.a has them. README.md, "For programs", says how it is made and linked. examples/c has four programs: check.c;
- * pieces.c, which checks what comes on standard input and never holds all of it; close.c, which saves what was written; and make.c, which makes
- * its records from values. docs/FORMAT.md says what a file is, record by record.
+ * The archive libpay_c.a has them. README.md, "For programs", says how it is made and linked. examples/c has three programs: check.c;
+ * close.c, which saves what was written; and make.c, which makes its records from values. docs/FORMAT.md says what a file is, record by record.
  *
  * What goes in. Any bytes and any numbers may be handed in: there is nothing that a caller has to look at first. Each call ends,
  * with an answer or with one numbered refusal.
  *     year, month, day   the process day: 2025, 10, 1; years 2000 to 2099. It is always given; nothing is taken from a clock.
  *     file, draft        the bytes of a whole file or draft, and how many they are. They are read and never changed, and nobody else may
  *                        change them during the call (another thread, or another program in a mapped file).
- *     piece              some bytes of a file that arrives in parts, and how many they are, which are read as files are.
- *     state              the numbers of a check in pieces, between its calls.
  *     values             of a record that is to be made: numbers, and texts in ISO 8859-1 as bytes and how many they are, which are read as files are.
  *     out                room for what is written, lent for the call, and how many bytes it has.
  *     answer             sixteen numbers, all of them written by every call.
@@ -19,19 +16,17 @@
  *     accepted   the figures of the file that was checked or written; place PAY_WRITTEN has how many bytes of out are the file.
  *     parted     places PAY_WRITTEN and PAY_WRITTEN_SECOND have how many bytes of the two outputs are the parts.
  *     made       the first PAY_RECORD_BYTES bytes of out are the record, its line feed too; place PAY_WRITTEN has this number.
- *     more       of a check in pieces: nothing is decided yet. All other places are 0.
  *     refused    number, operand, record and field of the first fault. No byte of an output was changed. That an output is too short
  *                is looked at last: whoever is told so has sound inputs.
  * Bytes of an output behind what was written stay as they were. Sums are in hundredths of a krone (80000 is 800.00 kroner).
  * A date is the number year * 10000 + month * 100 + day: 20251101 is 1 November 2025.
  *
- * Memory. An output overlaps nothing else that is handed in, and neither does a state or the answer; inputs may overlap, or be the same.
- * A length of 0 may go with any pointer, NULL too. Any other pointer is to as many bytes as its length says, answer is to sixteen numbers
- * and state to PAY_STATE numbers.
+ * Memory. An output overlaps nothing else that is handed in, and neither does the answer; inputs may overlap, or be the same.
+ * A length of 0 may go with any pointer, NULL too. Any other pointer is to as many bytes as its length says, and answer is to sixteen numbers.
  * A call needs at most PAY_STACK bytes of stack (measured by tests/c, with what the loader needs, and rounded up). It takes no memory
  * from the heap, opens nothing and prints nothing. Of the C library the archive calls memset and its like and nothing else; it is
  * position independent.
- * Nothing is shared between calls, so threads may call at the same time, each with outputs, a state and an answer of its own.
+ * Nothing is shared between calls, so threads may call at the same time, each with outputs and an answer of its own.
  */
 #ifndef PAY_H
 #define PAY_H
@@ -49,13 +44,12 @@ enum {
     PAY_MOST_ASSIGNMENTS = 500,  /* of a file */
     PAY_MOST_BYTES = 16200000,   /* of a file; an output of this length is never too short */
     PAY_MOST_IN_MESSAGE = 42,    /* records 49 of a transaction, those without a place too */
-    PAY_STATE = 640,             /* numbers of a state, 5,120 bytes */
     PAY_STACK = 32768            /* bytes of stack that a call needs at most */
 };
 
 /* ---- the places of an answer */
 enum {
-    PAY_WHAT = 0,             /* one of the five below */
+    PAY_WHAT = 0,             /* one of the four below */
     PAY_NUMBER = 1,           /* of a refusal: its number, one of those below */
     PAY_OPERAND = 2,          /* of a refusal by pay_join: 1 the first file, 2 the second, 0 both or the joined one; else 0 */
     PAY_RECORD = 3,           /* of a refusal: the record, counted from 1, its bytes beginning at (record - 1) * PAY_RECORD_BYTES; 0 for the whole file, and when making.
@@ -76,8 +70,7 @@ enum {
     PAY_REFUSED = 0,
     PAY_ACCEPTED = 1,
     PAY_PARTED = 2,
-    PAY_MADE = 3,
-    PAY_MORE = 4
+    PAY_MADE = 3
 };
 
 /* ---- the number of a refusal, and what it means */
@@ -127,30 +120,6 @@ void pay_join(uint64_t year, uint64_t month, uint64_t day, const uint8_t *first,
  * A part has the record 10, its assignments and an 89 of its own. So its length is PAY_RECORD_BYTES * (2 + the records of its assignments),
  * and both lengths together are file_length + 2 * PAY_RECORD_BYTES. Room needed: these lengths; file_length bytes for each are always enough. */
 void pay_part(uint64_t year, uint64_t month, uint64_t day, const uint8_t *file, uint64_t file_length, uint64_t k, uint8_t *first, uint64_t first_length, uint8_t *second, uint64_t second_length, uint64_t answer[PAY_ANSWER]);
-
-/* ---- a file that arrives in parts
- *
- * The same check for who cannot hold the whole file: pay_start, then pay_take for each piece as it comes, then pay_end, which tells the verdict.
- * A piece is any bytes that come next, cut anywhere, also in the middle of a record, and may be empty. It may be overwritten as soon as its call is over.
- *     PAY_MORE      is answered as long as nothing is decided: by pay_start, and by every pay_take. A fault in a record is kept and not told before the end.
- *     the verdict   is that of pay_check on all bytes together, every place of the answer too, with one exception: more than PAY_MOST_BYTES bytes are always
- *                   PAY_TOO_MANY_RECORDS, whatever else is wrong with them.
- * Before the end no more than two refusals are told: PAY_NO_PROCESS_DAY by pay_start, and PAY_TOO_MANY_RECORDS by the pay_take that takes the byte
- * after PAY_MOST_BYTES. At the end PAY_BAD_LENGTH goes before a kept fault, and PAY_ENDS_EARLY comes last.
- * After such a refusal and after the end every further pay_take and pay_end repeats the answer, figures too, and changes no number of the state.
- * The state is all that the calls know of each other. It points nowhere: it may be copied, and both copies go on by themselves; and it may be saved and go on
- * later with the same version of the library. Who changes a number of it is not harmed: any numbers are safe to hand in, and each call ends with some answer.
- * But only a state that pay_start made, and no one else changed, means anything. A call needs at most PAY_STACK bytes of stack, as every other; the state is the caller's.
- */
-
-/* Begins a check: makes the state, whatever was in it before. PAY_MORE, or PAY_REFUSED with PAY_NO_PROCESS_DAY. */
-void pay_start(uint64_t year, uint64_t month, uint64_t day, uint64_t state[PAY_STATE], uint64_t answer[PAY_ANSWER]);
-
-/* Takes the next bytes of the file. PAY_MORE, or PAY_REFUSED with PAY_TOO_MANY_RECORDS; or what was decided before. */
-void pay_take(uint64_t state[PAY_STATE], const uint8_t *piece, uint64_t piece_length, uint64_t answer[PAY_ANSWER]);
-
-/* Tells that all of the file was taken. PAY_ACCEPTED with the file's figures, or PAY_REFUSED; or what was decided before. */
-void pay_end(uint64_t state[PAY_STATE], uint64_t answer[PAY_ANSWER]);
 
 /* ---- records made from values
  *

@@ -17,17 +17,14 @@ fresh() { # PROGRAM
     [ -x "$root/target/bin/$1" ] && [ -f "$root/target/$1-built" ] && [ -z "$(find "$root/crates" "$root/crates.txt" -newer "$root/target/$1-built" | head -n 1)" ]
 }
 
-# programs are for x86-64; elsewhere the kit's own emulator runs them, by its own loader, at the stack that this shell may use
+# programs are for x86-64; elsewhere the kit's own emulator runs them, by its own loader
 start() { # FILE WORDS..
     case $(uname -m) in
         x86_64) "$@" ;;
         *)
             kit
             tools=$(dirname "$(dirname "$(rt doc)")")/on/$(uname -m)/toolchain
-            # shellcheck disable=SC3045
-            stack=$(ulimit -s)
-            case $stack in *[!0-9]*) stack=65536 ;; esac
-            "$tools/bin/qemu-x86_64" -s "$((stack * 1024))" "$tools/lib/ld-linux-x86-64.so.2" --library-path "$tools/lib" "$@"
+            "$tools/bin/qemu-x86_64" -s 67108864 "$tools/lib/ld-linux-x86-64.so.2" --library-path "$tools/lib" "$@"
             ;;
     esac
 }

@@ -1,6 +1,5 @@
 /* boundary.c: what include/pay.h promises of memory. A length of 0 goes with any pointer; inputs may be the same; every place of the answer is written;
- * the room that is told is enough and a byte less is not; what is told to be written is the file; a refusal changes no byte, and no call one behind what it wrote.
- * A check in pieces is all in its state, which may be copied, stays as it is once a verdict is told, and is safe whatever numbers it has. */
+ * the room that is told is enough and a byte less is not; what is told to be written is the file; a refusal changes no byte, and no call one behind what it wrote. */
 #include <inttypes.h>
 #include <stdint.h>
 #include <stdio.h>
@@ -32,7 +31,7 @@ static const char both[] = START ONE ONE_ENDS TWO TWO_ENDS "NY000089000000030000
 #define BYTES(text) (const uint8_t *)(text), sizeof(text) - 1
 #define DAY 2025, 10, 1
 
-enum { ROOM = 2048, LONGER = 100, FILLED = 0x5A, BESIDE = 8 };
+enum { ROOM = 2048, LONGER = 100, FILLED = 0x5A };
 
 static const uint64_t unwritten = 0xAAAAAAAAAAAAAAAA;
 static uint8_t out[ROOM], out_second[ROOM];
@@ -185,238 +184,6 @@ static void makes(const char *what, const char *record)
     clear();
 }
 
-/* A state, and numbers before and behind it that stay. */
-struct lent {
-    uint64_t before[BESIDE], state[PAY_STATE], behind[BESIDE];
-};
-
-static void lend(struct lent *lent)
-{
-    for (int i = 0; i < BESIDE; i++)
-        lent->before[i] = lent->behind[i] = unwritten;
-    for (int i = 0; i < PAY_STATE; i++)
-        lent->state[i] = unwritten;
-}
-
-static void stays(const char *what, const struct lent *lent)
-{
-    int fits = 1;
-
-    for (int i = 0; i < BESIDE; i++)
-        fits = fits && lent->before[i] == unwritten && lent->behind[i] == unwritten;
-    tried++;
-    if (fits)
-        return;
-    faults++;
-    printf("WRONG %s: numbers beside the state were changed\n", what);
-}
-
-/* Nothing is decided yet. */
-static void wants_more(const char *what)
-{
-    const uint64_t asked[PAY_ANSWER] = {[PAY_WHAT] = PAY_MORE};
-
-    answers(what, asked);
-    clear();
-}
-
-/* Takes a piece from memory that is overwritten at once. */
-static void take(uint64_t state[PAY_STATE], const char *bytes, size_t length)
-{
-    static uint8_t piece[ROOM];
-
-    for (size_t i = 0; i < length; i++)
-        piece[i] = (uint8_t)bytes[i];
-    pay_take(state, piece, length, answer);
-    memset(piece, FILLED, ROOM);
-}
-
-/* One file, in pieces of this length. */
-static void try_pieces_of(size_t length)
-{
-    static struct lent lent;
-    const size_t all = sizeof both - 1;
-
-    lend(&lent);
-    pay_start(DAY, lent.state, answer);
-    wants_more("start");
-    for (size_t at = 0; at < all; at += length) {
-        take(lent.state, both + at, length < all - at ? length : all - at);
-        wants_more("take a piece");
-    }
-    pay_end(lent.state, answer);
-    accepts("end", 2, 3, 0);
-    clear();
-    stays("a check in pieces", &lent);
-}
-
-/* What was told is told again, and no number of the state changes. */
-static void try_pieces_again(void)
-{
-    static struct lent lent, told;
-
-    lend(&lent);
-    pay_start(DAY, lent.state, answer);
-    take(lent.state, both, sizeof both - 1);
-    pay_end(lent.state, answer);
-    told = lent;
-    clear();
-    for (int i = 0; i < 2; i++) {
-        pay_take(lent.state, BYTES(draft), answer);
-        accepts("take after the end", 2, 3, 0);
-        clear();
-        pay_end(lent.state, answer);
-        accepts("end after the end", 2, 3, 0);
-        clear();
-    }
-    tried++;
-    if (memcmp(told.state, lent.state, sizeof told.state) != 0) {
-        faults++;
-        printf("WRONG a state was changed after the end\n");
-    }
-    stays("calls after the end", &lent);
-}
-
-/* Two copies of a state go on by themselves: one payment, or two, behind the same beginning. */
-static void try_pieces_twice(void)
-{
-    static struct lent one, other;
-    const size_t half = 200;
-
-    lend(&one);
-    pay_start(DAY, one.state, answer);
-    take(one.state, first, half);
-    other = one;
-    clear();
-    take(one.state, first + half, sizeof first - 1 - half);
-    wants_more("take into the one");
-    pay_take(other.state, NULL, 0, answer);
-    wants_more("take nothing into the other");
-    pay_end(one.state, answer);
-    accepts("end the one", 1, 1, 0);
-    clear();
-    take(other.state, second + half, sizeof second - 1 - half);
-    wants_more("take into the other");
-    pay_end(other.state, answer);
-    accepts("end the other", 1, 2, 0);
-    clear();
-    pay_end(one.state, answer);
-    accepts("end the one again", 1, 1, 0);
-    clear();
-}
-
-/* What is refused, and when it is told. */
-static void try_pieces_refused(void)
-{
-    static uint64_t state[PAY_STATE];
-    static uint8_t zeros[PAY_MOST_BYTES + 1];
-
-    pay_start(0, 0, 0, state, answer);
-    refuses("start on no day", PAY_NO_PROCESS_DAY, 0, 0, 0);
-    pay_take(state, BYTES(first), answer);
-    refuses("take on no day", PAY_NO_PROCESS_DAY, 0, 0, 0);
-    pay_start(DAY, state, answer);
-    clear();
-    pay_end(state, answer);
-    refuses("end of nothing", PAY_BAD_LENGTH, 0, 0, 0);
-    pay_start(DAY, state, answer);
-    clear();
-    pay_take(state, BYTES(draft), answer);
-    wants_more("take a draft, whose fault is kept");
-    pay_end(state, answer);
-    refuses("end of a draft", PAY_OUT_OF_ORDER, 0, 5, 4);
-    pay_start(DAY, state, answer);
-    pay_take(state, BYTES(draft), answer);
-    pay_take(state, BYTES("N"), answer);
-    clear();
-    pay_end(state, answer);
-    refuses("end of a draft and a byte", PAY_BAD_LENGTH, 0, 0, 0);
-    pay_start(DAY, state, answer);
-    pay_take(state, (const uint8_t *)first, sizeof first - 1 - PAY_RECORD_BYTES, answer);
-    clear();
-    pay_end(state, answer);
-    refuses("end without the last record", PAY_ENDS_EARLY, 0, 6, 0);
-    pay_start(DAY, state, answer);
-    clear();
-    pay_take(state, zeros, PAY_MOST_BYTES, answer);
-    wants_more("take as many bytes as a file may have");
-    pay_take(state, zeros, 1, answer);
-    refuses("take a byte more", PAY_TOO_MANY_RECORDS, 0, 0, 0);
-    pay_end(state, answer);
-    refuses("end of a byte more", PAY_TOO_MANY_RECORDS, 0, 0, 0);
-    pay_start(DAY, state, answer);
-    clear();
-    pay_take(state, zeros, PAY_MOST_BYTES + 1, answer);
-    refuses("take all of it at once", PAY_TOO_MANY_RECORDS, 0, 0, 0);
-}
-
-/* Some answer of a check. */
-static void answers_somehow(const char *what)
-{
-    uint64_t told = answer[PAY_WHAT];
-
-    tried++;
-    if (told != PAY_MORE && told != PAY_REFUSED && told != PAY_ACCEPTED) {
-        faults++;
-        printf("WRONG %s: no answer of a check\n", what);
-    }
-    clear();
-}
-
-/* Any numbers are a state that may be handed in. */
-static void try_any_state(uint64_t number, uint64_t step)
-{
-    static struct lent lent;
-
-    lend(&lent);
-    for (int i = 0; i < PAY_STATE; i++, number = number * step + 1)
-        lent.state[i] = number;
-    pay_take(lent.state, BYTES(both), answer);
-    answers_somehow("take into any state");
-    pay_take(lent.state, BYTES("N"), answer);
-    answers_somehow("take a byte into any state");
-    pay_end(lent.state, answer);
-    answers_somehow("end of any state");
-    stays("any state", &lent);
-}
-
-/* So is a state of which one number was changed. */
-static void try_changed_state(int at, uint64_t number)
-{
-    static struct lent lent;
-
-    lend(&lent);
-    pay_start(DAY, lent.state, answer);
-    pay_take(lent.state, (const uint8_t *)both, 500, answer);
-    lent.state[at] = number;
-    clear();
-    pay_take(lent.state, (const uint8_t *)both + 500, sizeof both - 1 - 500, answer);
-    answers_somehow("take into a changed state");
-    pay_end(lent.state, answer);
-    answers_somehow("end of a changed state");
-    stays("a changed state", &lent);
-}
-
-static void try_pieces(void)
-{
-    const size_t lengths[] = {1, 7, 80, PAY_RECORD_BYTES, 82, 200, ROOM};
-
-    for (int i = 0; i < 7; i++)
-        try_pieces_of(lengths[i]);
-    try_pieces_again();
-    try_pieces_twice();
-    try_pieces_refused();
-    try_any_state(0, 0);
-    try_any_state(UINT64_MAX, 1);
-    try_any_state(1, 6364136223846793005);
-    try_any_state(500, 1);
-    for (int at = 0; at < PAY_STATE; at++) {
-        try_changed_state(at, UINT64_MAX);
-        try_changed_state(at, 501);
-        try_changed_state(at, 0);
-    }
-}
-
 /* Each record type once, in just enough room or more. */
 static void try_make(void)
 {
@@ -482,25 +249,6 @@ static void try_make_nothing(uint8_t *any)
     refuses("make a 50 without a KID", PAY_BAD_FORM, 0, 0, 6);
 }
 
-/* A piece of no bytes, by any pointer. */
-static void try_no_piece(const uint8_t *any)
-{
-    static uint64_t state[PAY_STATE];
-
-    pay_start(DAY, state, answer);
-    clear();
-    pay_take(state, any, 0, answer);
-    wants_more("take nothing");
-    pay_take(state, BYTES(first), answer);
-    pay_take(state, any, 0, answer);
-    clear();
-    pay_end(state, answer);
-    accepts("end after nothing", 1, 1, 0);
-    pay_take(state, any, 0, answer);
-    accepts("take nothing after the end", 1, 1, 0);
-    clear();
-}
-
 /* Nothing, by any pointer. */
 static void try_nothing(uint8_t *any)
 {
@@ -520,7 +268,6 @@ static void try_nothing(uint8_t *any)
     refuses("part nothing", PAY_BAD_LENGTH, 0, 0, 0);
     pay_part(DAY, BYTES(both), 1, any, 0, any, 0, answer);
     refuses("part into nothing", PAY_OUTPUT_TOO_SHORT, 0, 0, 0);
-    try_no_piece(any);
 }
 
 int main(void)
@@ -530,7 +277,6 @@ int main(void)
     try_close();
     try_join();
     try_part();
-    try_pieces();
     try_make();
     try_make_refused();
     try_nothing(NULL);

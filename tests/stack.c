@@ -1,4 +1,4 @@
-/* stack.c: how much stack each operation takes, those on files with 500 assignments, and the check in pieces and the makings together. Each runs in a thread whose stack was painted before; the deepest byte that is
+/* stack.c: how much stack each operation takes, those on files with 500 assignments, and the makings together. Each runs in a thread whose stack was painted before; the deepest byte that is
  * no paint any more says how far it went. Fails above PAY_STACK. The deepest operation is the first, with what the loader takes to find memset for it. */
 #define _XOPEN_SOURCE 600 /* for pthread_attr_setstack */
 #include <pthread.h>
@@ -13,7 +13,7 @@ static uint8_t stack[STACK];
 static char file[ROOM], half[ROOM], other[ROOM], draft[ROOM];
 static uint64_t file_length, half_length, other_length, draft_length;
 static uint8_t out[ROOM], out_second[ROOM];
-static uint64_t answer[PAY_ANSWER], state[PAY_STATE];
+static uint64_t answer[PAY_ANSWER];
 
 /* Puts assignments from a first number to a last, of one transaction each: a file, or without end records a draft. Gives the length. */
 static uint64_t put(char *bytes, int from, int to, int ended)
@@ -54,15 +54,6 @@ static void run_part(void)
     pay_part(2025, 10, 1, (uint8_t *)file, file_length, ASSIGNMENTS / 2, out, ROOM, out_second, ROOM, answer);
 }
 
-/* in two pieces, with a record cut in the middle */
-static void run_pieces(void)
-{
-    pay_start(2025, 10, 1, state, answer);
-    pay_take(state, (uint8_t *)file, 1000, answer);
-    pay_take(state, (uint8_t *)file + 1000, file_length - 1000, answer);
-    pay_end(state, answer);
-}
-
 /* a text in C as bytes, and how many they are */
 #define TEXT(text) (const uint8_t *)(text), sizeof(text) - 1
 
@@ -88,7 +79,6 @@ static const struct {
     {"pay_close", run_close, PAY_ACCEPTED},
     {"pay_join", run_join, PAY_ACCEPTED},
     {"pay_check", run_check, PAY_ACCEPTED},
-    {"pay_start, pay_take and pay_end", run_pieces, PAY_ACCEPTED},
     {"pay_make10 to pay_make50", run_make, PAY_MADE},
 };
 
@@ -143,7 +133,7 @@ int main(void)
     half_length = put(half, 1, ASSIGNMENTS / 2, 1);
     other_length = put(other, ASSIGNMENTS / 2 + 1, ASSIGNMENTS, 1);
     draft_length = put(draft, 1, ASSIGNMENTS, 0);
-    for (int which = 0; which < 6; which++)
+    for (int which = 0; which < 5; which++)
         failed |= measure(which);
     return failed;
 }

@@ -1,5 +1,4 @@
-/* check.c: is a file as the clearing house wants it? Prints the first line that `pay check` prints, but for a file that is too long by less than a record,
- * which is PAY_BAD_LENGTH here and PAY_TOO_MANY_RECORDS there. With any compiler for C99, from the project's root:
+/* check.c: is a file as the clearing house wants it? Prints the first line that `pay check` prints. With any compiler for C99, from the project's root:
  *
  *     reference/archive
  *     cc -std=c99 -Iinclude examples/c/check.c target/staticlib/$(uname -m)/libpay_c.a -o target/check
@@ -17,8 +16,8 @@
 
 enum { ACCEPTED = 0, REFUSED = 1, TROUBLE = 2 };
 
-/* for a file of full size and a record more, which pay_check refuses: of a longer file no more is read */
-static const size_t room = PAY_MOST_BYTES + PAY_RECORD_BYTES;
+/* a file of full size and a record more, which pay_check refuses */
+static const size_t most = PAY_MOST_BYTES + PAY_RECORD_BYTES;
 
 struct day {
     uint64_t year, month, day;
@@ -48,7 +47,7 @@ static int trouble(const char *name, const char *what)
     return TROUBLE;
 }
 
-/* Reads a file into the room of bytes. Gives 0, or TROUBLE, which is then told. */
+/* Reads a file into bytes, which has room for a byte more than a file may have. Gives 0, or TROUBLE, which is then told. */
 static int read_file(const char *name, uint8_t *bytes, size_t *length)
 {
     FILE *in = fopen(name, "rb");
@@ -56,9 +55,11 @@ static int read_file(const char *name, uint8_t *bytes, size_t *length)
 
     if (in == NULL)
         return trouble(name, strerror(errno));
-    *length = fread(bytes, 1, room, in);
+    *length = fread(bytes, 1, most + 1, in);
     if (ferror(in))
         status = trouble(name, strerror(errno));
+    else if (*length > most)
+        status = trouble(name, "it is too long, a file has at most 200,000 records");
     fclose(in);
     return status;
 }
@@ -89,7 +90,7 @@ int main(int argc, char **argv)
         fputs("usage: check DDMMYY FILE\n", stderr);
         return TROUBLE;
     }
-    file = malloc(room);
+    file = malloc(most + 1);
     if (file == NULL)
         return trouble(argv[2], "there is no memory for it");
     status = read_file(argv[2], file, &length);

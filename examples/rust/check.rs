@@ -1,5 +1,4 @@
-//! Is a file as the clearing house wants it? Prints the first line that `pay check` prints, but for a file that is too long by less than a record,
-//! which is 2 here and 3 there. From the project's root:
+//! Is a file as the clearing house wants it? Prints the first line that `pay check` prints. From the project's root:
 //!
 //! ```text
 //! reference/archive
@@ -19,8 +18,8 @@ use std::fs::File;
 use std::io::{self, Read};
 use std::process::ExitCode;
 
-/// For a file of full size and a record more, which the check refuses: of a longer file no more is read.
-const ROOM: usize = PAY_MOST_BYTES + PAY_RECORD_BYTES;
+/// A file of full size and a record more, which the check refuses.
+const MOST: usize = PAY_MOST_BYTES + PAY_RECORD_BYTES;
 
 /// The day that DDMMYY names. A word of another form gives 0, 0, 0, which the check refuses as no date.
 fn day_from(word: &str) -> Day {
@@ -34,7 +33,7 @@ fn day_from(word: &str) -> Day {
 /// The whole file, or the first bytes of one that is too long.
 fn read_file(name: &OsStr) -> io::Result<Vec<u8>> {
     let mut bytes = Vec::new();
-    File::open(name)?.take(ROOM as u64).read_to_end(&mut bytes)?;
+    File::open(name)?.take(MOST as u64 + 1).read_to_end(&mut bytes)?;
     Ok(bytes)
 }
 
@@ -47,6 +46,9 @@ fn print_accepted(file: Accepted) {
 
 fn run(day: &OsStr, name: &OsStr) -> Result<ExitCode, String> {
     let file = read_file(name).map_err(|error| error.to_string())?;
+    if file.len() > MOST {
+        return Err("it is too long, a file has at most 200,000 records".to_string());
+    }
     match pay::check(day_from(&day.to_string_lossy()), &file) {
         Ok(figures) => {
             print_accepted(figures);

@@ -52,14 +52,6 @@ unsafe extern "C" {
         second_length: u64,
         answer: *mut [u64; 16],
     );
-    fn pay_start(year: u64, month: u64, day: u64, state: *mut [u64; 640], answer: *mut [u64; 16]);
-    fn pay_take(
-        state: *mut [u64; 640],
-        piece: *const u8,
-        piece_length: u64,
-        answer: *mut [u64; 16],
-    );
-    fn pay_end(state: *mut [u64; 640], answer: *mut [u64; 16]);
     fn pay_make10(sender: u64, number: u64, out: *mut u8, out_length: u64, answer: *mut [u64; 16]);
     fn pay_make20(
         service: u64,
@@ -155,7 +147,6 @@ unsafe extern "C" {
 
 pub const PAY_RECORD_BYTES: usize = 81;
 pub const PAY_MOST_BYTES: usize = 16200000;
-const PAY_STATE: usize = 640;
 
 const PAY_WHAT: usize = 0;
 const PAY_NUMBER: usize = 1;
@@ -331,40 +322,6 @@ pub fn part(
         )
     };
     parted(&answer)
-}
-
-/// The check of a file that arrives in parts, between two calls. It is a value: a copy goes on by itself.
-#[derive(Clone)]
-pub struct Pieces {
-    state: [u64; PAY_STATE],
-}
-
-impl Pieces {
-    /// Begins a check. Refused is a day that is no date.
-    pub fn start(on: Day) -> Result<Self, Refused> {
-        let (mut state, mut answer) = ([0; PAY_STATE], [0; PAY_ANSWER]);
-        // SAFETY: as above.
-        unsafe { pay_start(on.year, on.month, on.day, &mut state, &mut answer) };
-        refused(&answer).map(|()| Self { state })
-    }
-
-    /// Takes the bytes that come next, cut anywhere. Refused are more than PAY_MOST_BYTES; every other fault is told at the end.
-    pub fn take(&mut self, piece: &[u8]) -> Result<(), Refused> {
-        let mut answer = [0; PAY_ANSWER];
-        // SAFETY: as above.
-        unsafe {
-            pay_take(&mut self.state, piece.as_ptr(), piece.len() as u64, &mut answer);
-        }
-        refused(&answer)
-    }
-
-    /// What `check` tells of all the bytes together.
-    pub fn end(mut self) -> Result<Accepted, Refused> {
-        let mut answer = [0; PAY_ANSWER];
-        // SAFETY: as above.
-        unsafe { pay_end(&mut self.state, &mut answer) };
-        accepted(&answer)
-    }
 }
 
 // Each of these makes a record from values at the start of the output, and gives how many bytes it has: PAY_RECORD_BYTES, which are always room enough.
@@ -594,28 +551,6 @@ mod tests {
         assert_eq!(check(ON, WHOLE), Ok(figures(1, 0)));
         assert_eq!(check(ON, DRAFT), Err(fault(6, 0, 5, 0)));
         assert_eq!(check(ON, &[]), Err(fault(2, 0, 0, 0)));
-    }
-
-    #[test]
-    fn a_file_is_checked_in_pieces() {
-        for length in [1, 80, 81, 82, WHOLE.len()] {
-            let mut check = Pieces::start(ON).unwrap();
-            let mut empty = check.clone();
-            for piece in WHOLE.chunks(length) {
-                assert_eq!([check.take(piece), check.take(b"")], [Ok(()); 2]);
-            }
-            let mut longer = check.clone();
-            assert_eq!(check.end(), Ok(figures(1, 0)));
-            assert_eq!([longer.take(b"N"), empty.take(b"")], [Ok(()); 2]);
-            assert_eq!([longer.end(), empty.end()], [Err(fault(2, 0, 0, 0)); 2]);
-        }
-        let no_day = Pieces::start(Day { month: 13, ..ON });
-        assert_eq!(no_day.err(), Some(fault(1, 0, 0, 0)));
-        let mut check = Pieces::start(ON).unwrap();
-        assert_eq!(check.take(&vec![0; PAY_MOST_BYTES]), Ok(()));
-        let too_many = fault(3, 0, 0, 0);
-        assert_eq!([check.take(b"0"), check.take(b"")], [Err(too_many); 2]);
-        assert_eq!(check.end(), Err(too_many));
     }
 
     #[test]

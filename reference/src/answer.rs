@@ -2,7 +2,6 @@
 //! place, and 0 wherever a place does not apply.
 
 use crate::make::{BadLine, Drafting, Making};
-use crate::pieces::Step;
 use crate::{Accepted, Parted, Parting, RECORD, Refused, Verdict, Writing, Written};
 
 /// How many numbers an answer has.
@@ -56,12 +55,10 @@ pub enum What {
     Accepted = 1,
     Parted = 2,
     Made = 3,
-    More = 4,
 }
 
 impl What {
-    pub const ALL: [Self; 5] =
-        [Self::Refused, Self::Accepted, Self::Parted, Self::Made, Self::More];
+    pub const ALL: [Self; 4] = [Self::Refused, Self::Accepted, Self::Parted, Self::Made];
 }
 
 fn answer<const N: usize>(what: What, numbers: [(Place, u64); N]) -> Answer {
@@ -100,11 +97,6 @@ fn accepted(figures: Accepted, bytes: usize) -> Answer {
 /// The answer of checking, which writes nothing.
 pub fn of_check(verdict: Verdict) -> Answer {
     verdict.map_or_else(refused, |figures| accepted(figures, 0))
-}
-
-/// The answer of a call of the check in pieces.
-pub fn of_step(step: Step) -> Answer {
-    step.map_or_else(|| answer(What::More, []), of_check)
 }
 
 /// The answer of closing and joining.

@@ -1,7 +1,6 @@
 //! The proved operations, through the archive of crate `pay_c`. What the
 //! archive does not have answers nothing.
 
-use reference::Day;
 use reference::answer::{self, Answer, PLACES};
 use reference::cases::{Case, Operation};
 use reference::make::{Making, Values, make_draft_with};
@@ -56,14 +55,6 @@ unsafe extern "C" {
         second_length: u64,
         answer: *mut [u64; 16],
     );
-    fn pay_start(year: u64, month: u64, day: u64, state: *mut [u64; 640], answer: *mut [u64; 16]);
-    fn pay_take(
-        state: *mut [u64; 640],
-        piece: *const u8,
-        piece_length: u64,
-        answer: *mut [u64; 16],
-    );
-    fn pay_end(state: *mut [u64; 640], answer: *mut [u64; 16]);
     fn pay_make10(sender: u64, number: u64, out: *mut u8, out_length: u64, answer: *mut [u64; 16]);
     fn pay_make20(
         service: u64,
@@ -162,19 +153,6 @@ const MAKES_ALL: bool = cfg!(all(
     pay_make10, pay_make20, pay_make30, pay_make31, pay_make40, pay_make41, pay_make49, pay_make50
 ));
 
-/// How many numbers the state of a check in pieces has.
-pub const STATE: usize = 640;
-
-pub type State = [u64; STATE];
-
-/// A call of the check in pieces.
-#[allow(dead_code)]
-pub enum Step<'a> {
-    Start(Day),
-    Take(&'a [u8]),
-    End,
-}
-
 /// The operations that the archive has.
 pub fn operations() -> Vec<Operation> {
     let has = |operation| match operation {
@@ -191,7 +169,6 @@ pub fn operations() -> Vec<Operation> {
         Operation::Make49 => cfg!(pay_make49),
         Operation::Make50 => cfg!(pay_make50),
         Operation::MakeDraft => MAKES_ALL,
-        Operation::Take => cfg!(all(pay_start, pay_take, pay_end)),
     };
     Operation::ALL.into_iter().filter(|&operation| has(operation)).collect()
 }
@@ -243,24 +220,6 @@ fn asked(case: &Case, out1: &mut [u8], out2: &mut [u8], answer: *mut Answer) -> 
         _ => return false,
     }
     true
-}
-
-/// A call of the archive's check in pieces, if it has it.
-#[inline]
-#[allow(unused_variables)]
-pub fn step(state: *mut State, step: Step, answer: *mut Answer) {
-    // SAFETY: the state has its numbers, a piece goes with its length, and the
-    // answer has sixteen places; who calls lends them and they do not overlap.
-    match step {
-        #[cfg(pay_start)]
-        Step::Start((year, month, day)) => unsafe { pay_start(year, month, day, state, answer) },
-        #[cfg(pay_take)]
-        Step::Take(piece) => unsafe { pay_take(state, piece.as_ptr(), piece.len() as u64, answer) },
-        #[cfg(pay_end)]
-        Step::End => unsafe { pay_end(state, answer) },
-        #[allow(unreachable_patterns)]
-        _ => {}
-    }
 }
 
 /// What the archive answers to these values.

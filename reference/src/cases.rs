@@ -2,14 +2,13 @@
 //! seed and index make the same case on every machine.
 
 use crate::answer::{self, Answer};
-use crate::cuttings::{self, Call};
 use crate::damage::{crowd, damage};
 use crate::make::{Values, make, make_draft};
 use crate::random::Random;
 use crate::records::{self, closed, count, file_of, long_file};
 use crate::sample::{DAY, Plan, days, sound_draft};
 use crate::till;
-use crate::{Day, MAX_RECORDS, RECORD, Variant};
+use crate::{Day, RECORD, Variant};
 
 #[derive(Clone, Copy, Debug, PartialEq, Eq)]
 pub enum Operation {
@@ -27,12 +26,10 @@ pub enum Operation {
     Make50,
     /// No operation of its own: the records of lines, each made by one of the eight.
     MakeDraft,
-    /// The check in pieces. It has no cases of its own: see [`in_pieces`].
-    Take,
 }
 
 impl Operation {
-    pub const ALL: [Self; 14] = [
+    pub const ALL: [Self; 13] = [
         Self::Check,
         Self::Close,
         Self::Join,
@@ -46,7 +43,6 @@ impl Operation {
         Self::Make49,
         Self::Make50,
         Self::MakeDraft,
-        Self::Take,
     ];
 
     pub fn name(self) -> &'static str {
@@ -64,7 +60,6 @@ impl Operation {
             Self::Make49 => "make49",
             Self::Make50 => "make50",
             Self::MakeDraft => "make",
-            Self::Take => "take",
         }
     }
 
@@ -101,17 +96,15 @@ pub struct Case {
     pub k: u64,
     /// The lengths of the lent outputs.
     pub rooms: [usize; 2],
-    /// What a record is made of. Of a vector in pieces: the three numbers of its first line.
+    /// What a record is made of.
     pub numbers: Vec<u64>,
     pub texts: Vec<Vec<u8>>,
-    /// Of a check in pieces.
-    pub calls: Vec<Call>,
 }
 
 impl Case {
     pub fn new(operation: Operation, day: Day, first: Vec<u8>) -> Self {
-        let (second, numbers, texts, calls) = (Vec::new(), Vec::new(), Vec::new(), Vec::new());
-        Self { operation, day, first, second, k: 0, rooms: [0, 0], numbers, texts, calls }
+        let (second, numbers, texts) = (Vec::new(), Vec::new(), Vec::new());
+        Self { operation, day, first, second, k: 0, rooms: [0, 0], numbers, texts }
     }
 
     /// What a record is to be made of, where the case asks for one.
@@ -145,15 +138,11 @@ impl Case {
     }
 }
 
-/// The answer of a variant, the outputs being lent to it; of a check in pieces the last one. There
-/// is one way of making alone.
+/// The answer of a variant, the outputs being lent to it. There is one way of making alone.
 pub fn answer(case: &Case, variant: Variant, out1: &mut [u8], out2: &mut [u8]) -> Answer {
-    let Case { operation, day, first, second, k, calls, .. } = case;
+    let Case { operation, day, first, second, k, .. } = case;
     match operation {
         Operation::Check => answer::of_check((variant.check)(*day, first)),
-        Operation::Take => {
-            *cuttings::answers(variant, *day, first, calls).last().expect("that of the start")
-        }
         Operation::Close => answer::of_writing((variant.close)(*day, first, out1)),
         Operation::Join => answer::of_writing((variant.join)(*day, first, second, out1)),
         Operation::Part => answer::of_parting((variant.part)(*day, first, *k, out1, out2)),
@@ -166,10 +155,8 @@ pub fn answer(case: &Case, variant: Variant, out1: &mut [u8], out2: &mut [u8]) -
 /// once in some thousands.
 pub fn case(seed: u64, index: u64, operations: &[Operation]) -> Case {
     let mut random = Random::of_case(seed, index);
-    let (makings, others): (Vec<Operation>, Vec<Operation>) = operations
-        .iter()
-        .filter(|&&operation| operation != Operation::Take)
-        .partition(|operation| operation.is_making());
+    let (makings, others): (Vec<Operation>, Vec<Operation>) =
+        operations.iter().partition(|operation| operation.is_making());
     let is_making = others.is_empty() || !makings.is_empty() && random.percent(20);
     // A record 30 has the most rules.
     let operation = match operations.contains(&Operation::Make30) {
@@ -192,26 +179,6 @@ pub fn case(seed: u64, index: u64, operations: &[Operation]) -> Case {
         case.day = no_day(&mut random);
     }
     case
-}
-
-/// Of so many checked files, one is cut at every place, if it has no more bytes than this.
-const EVERY_PLACE: u64 = 200;
-const SMALL: usize = 20 * RECORD;
-
-/// The file of a checking case in pieces, cut by chance; a small one of some hundreds at every
-/// place. What is about as long as a file may be is lengthened at times.
-pub fn in_pieces(case: &Case, random: &mut Random) -> Vec<Case> {
-    let mut file = case.first.clone();
-    if file.len() > MAX_RECORDS * RECORD - 2 * RECORD {
-        let more = random.pick(&[0, 0, 1, 80, 81, 162, 163]);
-        file.resize(file.len() + more, b'0');
-    }
-    let length = file.len();
-    let cut = |calls| Case { calls, ..Case::new(Operation::Take, case.day, file.clone()) };
-    if random.below(EVERY_PLACE) == 0 && length <= SMALL {
-        return (0..=length).map(|at| cut(cuttings::in_two(length, at))).collect();
-    }
-    vec![cut(cuttings::by_chance(random, length))]
 }
 
 /// A record to be made.
@@ -473,7 +440,7 @@ fn small(random: &mut Random, operation: Operation) -> Case {
             let rooms = parts(&file, k).map(|needed| room(random, needed));
             Case { k, rooms, ..Case::new(operation, day, file) }
         }
-        _ => unreachable!("no operation on whole files"),
+        _ => unreachable!("a making"),
     }
 }
 
@@ -530,7 +497,7 @@ fn many_assignments(random: &mut Random, operation: Operation) -> Case {
             case.k = boundary(random, &case.first);
             case.rooms = parts(&case.first, case.k);
         }
-        _ => unreachable!("no operation on whole files"),
+        _ => unreachable!("a making"),
     }
     case
 }
@@ -570,6 +537,6 @@ fn huge(random: &mut Random, operation: Operation) -> Case {
             let rooms = parts(&file, k);
             Case { k, rooms, ..Case::new(operation, day, file) }
         }
-        _ => unreachable!("no operation on whole files"),
+        _ => unreachable!("a making"),
     }
 }

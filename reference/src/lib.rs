@@ -1,16 +1,14 @@
-//! Files sent to the clearing house: check a file, whole or in pieces, close a
-//! draft, join two files, part one file, and make the records of a draft from
-//! values.
+//! Files sent to the clearing house: check a file, close a draft, join two
+//! files, part one file, and make the records of a draft from values.
 //!
-//! The functions at the crate root are the plain ones. [`fast`] has all of them
-//! but the making with the same answers; it accepts well-formed transactions a
-//! word at a time and hands everything else to the plain rules.
+//! The functions at the crate root are the plain ones. [`fast`] has the first
+//! four operations with the same answers; it accepts well-formed transactions
+//! a word at a time and hands everything else to the plain rules.
 #![forbid(unsafe_code)]
 
 pub mod answer;
 pub mod cases;
 mod checker;
-pub mod cuttings;
 pub mod damage;
 mod date;
 mod field;
@@ -18,7 +16,6 @@ mod figures;
 pub mod header;
 pub mod make;
 mod operations;
-pub mod pieces;
 pub mod program;
 pub mod random;
 pub mod records;
@@ -32,7 +29,6 @@ pub mod fast;
 
 pub use make::{make, make_draft};
 pub use operations::{check, close, join, part};
-pub use pieces::{Pieces, start};
 
 /// Bytes of one record, its line feed included.
 pub const RECORD: usize = 81;
@@ -112,17 +108,15 @@ pub struct Variant {
     pub close: fn(Day, &[u8], &mut [u8]) -> Writing,
     pub join: fn(Day, &[u8], &[u8], &mut [u8]) -> Writing,
     pub part: fn(Day, &[u8], u64, &mut [u8], &mut [u8]) -> Parting,
-    pub start: fn(Day) -> Pieces,
 }
 
 impl Variant {
-    pub const PLAIN: Self = Self { name: "plain", check, close, join, part, start };
+    pub const PLAIN: Self = Self { name: "plain", check, close, join, part };
     pub const FAST: Self = Self {
         name: "fast",
         check: fast::check,
         close: fast::close,
         join: fast::join,
         part: fast::part,
-        start: fast::start,
     };
 }

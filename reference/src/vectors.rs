@@ -6,19 +6,10 @@
 //! and the second; `part  DDMMYY K ROOM1 ROOM2` and the file; `make  000000
 //! ROOM`, blanks up to the same length, and lines of values. Outputs are filled
 //! with `#` before the call.
-//!
-//! `take  DDMMYY FIRST STEP AFTER` and the input of a check in pieces. All but
-//! its last AFTER bytes are handed in: FIRST bytes (all if there are fewer),
-//! then pieces of STEP bytes (0: the rest in one), an empty piece before each of
-//! these; then the end is told, the last bytes are handed in as one piece, and
-//! the end is told once more. The line has the answer at the first end, how many
-//! calls before it answered `more`, the start too, and the answer at the last.
 
 use crate::cases::{Case, Operation};
-use crate::cuttings::{Call, in_steps, split};
 use crate::make::BadLine;
-use crate::pieces::Step;
-use crate::{Accepted, Day, Refused, check, close, join, make_draft, part, start};
+use crate::{Accepted, Day, Refused, check, close, join, make_draft, part};
 
 /// The most bytes of an output.
 const MOST_ROOM: usize = 160_000;
@@ -37,23 +28,11 @@ pub fn written(case: &Case) -> Vec<u8> {
         Operation::Join => format!("join  {date} {:06} {one:06} 000000\n", case.first.len()),
         Operation::Part => format!("part  {date} {:06} {one:06} {two:06}\n", case.k),
         Operation::MakeDraft => format!("make  000000 {one:06}{:14}\n", ""),
-        Operation::Take => {
-            let [first, step, after] = case.numbers[..] else { panic!("three numbers") };
-            format!("take  {date} {first:06} {step:06} {after:06}\n")
-        }
         _ => panic!("there are no vectors of {}", case.operation.name()),
     };
     let vector = [line.as_bytes(), &case.first, &case.second].concat();
     assert!(case.rooms.into_iter().all(|room| room <= MOST_ROOM) && vector.len() <= MOST_BYTES);
-    assert!(line.len() == 13 || line.len() == 34, "{line}");
     vector
-}
-
-/// A check in pieces of these lengths.
-pub fn taking(day: Day, input: Vec<u8>, first: usize, step: usize, after: usize) -> Case {
-    let calls = in_steps(input.len(), first, step, after);
-    let numbers = [first, step, after].map(|number| number as u64).into();
-    Case { numbers, calls, ..Case::new(Operation::Take, day, input) }
 }
 
 /// The number in these places of the first line.
@@ -90,11 +69,6 @@ pub fn read(vector: &[u8]) -> Option<Case> {
             whole(Operation::Part, k, [one as usize, two as usize])
         }
         b"make  " => whole(Operation::MakeDraft, 0, [number(line, 13, 19)? as usize, 0]),
-        b"take  " => {
-            let (first, step, after) = numbers()?;
-            let [first, step, after] = [first, step, after].map(|number| number as usize);
-            Some(taking(day(line)?, rest.to_vec(), first, step, after))
-        }
         _ => None,
     }
 }
@@ -115,31 +89,9 @@ fn refused(refused: Refused) -> String {
     format!("refused {number} {record} {field}")
 }
 
-/// What a call of a check in pieces answers.
-fn step(step: Step) -> String {
-    step.map_or("more".into(), |verdict| verdict.map_or_else(refused, accepted))
-}
-
-/// The answer at the first end, how many calls before answered more, and the last answer.
-fn steps(day: Day, input: &[u8], calls: &[Call]) -> String {
-    let (mut state, mut rest) = (start(day), input);
-    let (mut more, mut at_end) = (u64::from(state.answer().is_none()), None);
-    for call in calls {
-        match *call {
-            Call::Take(length) => more += u64::from(state.take(split(&mut rest, length)).is_none()),
-            _ => {
-                let answer = state.end();
-                at_end.get_or_insert((answer, more));
-            }
-        }
-    }
-    let (first, more) = at_end.expect("an end");
-    format!("{} {more} {}", step(first), step(state.answer()))
-}
-
 /// The line to be printed about a case, without the vector's name.
 pub fn line(case: &Case) -> String {
-    let Case { operation, day, first, second, k, rooms, calls, .. } = case;
+    let Case { operation, day, first, second, k, rooms, .. } = case;
     let [mut one, mut two] = rooms.map(|room| vec![FILLER; room]);
     match operation {
         Operation::Check => check(*day, first).map_or_else(refused, accepted),
@@ -165,7 +117,6 @@ pub fn line(case: &Case) -> String {
             };
             format!("{answer} {}", hash(&one))
         }
-        Operation::Take => steps(*day, first, calls),
         _ => panic!("there are no vectors of {}", operation.name()),
     }
 }
@@ -202,24 +153,6 @@ mod tests {
         let vector = written(&case(MakeDraft, lines.clone(), vec![], [81, 0]));
         assert_eq!(vector, [b"make  000000 000081              \n", &lines[..]].concat());
         assert_eq!(written(&case(Operation::Join, whole(), whole(), [5, 0]))[33], b'\n');
-    }
-
-    #[test]
-    fn lines_in_pieces() {
-        let input = [&whole()[..], b"NY"].concat();
-        let case = taking((2025, 10, 1), input.clone(), 100, 200, 2);
-        // The start, and pieces of 100, 0, 200, 0 and 186 bytes.
-        let accepted = "accepted 1 1 6 80000 011125";
-        assert_eq!(line(&case), format!("{accepted} 6 {accepted}"));
-        let vector = written(&case);
-        assert_eq!(vector, [b"take  011025 000100 000200 000002\n", &input[..]].concat());
-        assert_eq!(line(&read(&vector).unwrap()), line(&case));
-        let of = |day, length, first, after| {
-            line(&taking(day, whole()[..length].to_vec(), first, 0, after))
-        };
-        assert_eq!(of((2025, 10, 1), 486, 81, 81), "refused 6 6 0 4 refused 6 6 0");
-        assert_eq!(of((2025, 10, 1), 0, 81, 81), "refused 2 0 0 2 refused 2 0 0");
-        assert_eq!(of((2025, 2, 29), 486, 81, 81), "refused 1 0 0 0 refused 1 0 0");
     }
 
     #[test]

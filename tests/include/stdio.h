@@ -2,7 +2,6 @@
 #pragma once
 #include <stddef.h>
 typedef struct _IO_FILE FILE;
-extern FILE *stdin;
 extern FILE *stdout;
 extern FILE *stderr;
 FILE *fopen(const char *restrict name, const char *restrict mode);

@@ -1,11 +1,13 @@
 -- The refusals of the whole input, in their order, and the run behind them.
 -- Assumes nothing.
 use Prim.Native.Nat.{ℕ, ◌/◌, ◌≤◌, ◌<◌}
-use mathlib.Core.Path.{◌≡◌, sym, ap, ◌∙◌}
+use mathlib.Core.Path.{◌≡◌, refl, sym, ap, ◌∙◌}
 use mathlib.Core.List.{List, []}
 use mathlib.Core.Bool.{Bool, true, false}
 use borrow.Author.Tests.{le-leb, lt-leb}
+use lib.Dec.{leb}
 use lib.ListN.{length}
+use Rattle.choice.specs.Choice.{if◌then◌else◌}
 use Rattle.dates.specs.Windows.{window_of}
 use Rattle.dates.specs.declared.ProcessDay.{ProcessDay}
 use Rattle.dates.specs.declared.Window.{Window}
@@ -14,15 +16,13 @@ use Rattle.dates.specs.declared.Opening.TheVariants.{Open, NoDay}
 use Rattle.rules.specs.Growth.{start}
 use Rattle.limits.specs.Limits.{record_bytes, most_records}
 use Rattle.rules.specs.Refusals.{refused}
-use Rattle.rules.specs.Run.{Running, running, run_on, run, records_of, bad_length, judge, on_window, check_of}
-use Rattle.rules.specs.declared.Mode.{Mode}
+use Rattle.rules.specs.Run.{run, records_of, bad_length, judge, on_window, check_of}
 use Rattle.rules.specs.declared.Mode.TheVariants.{File}
-use Rattle.rules.specs.declared.Progress.{Progress}
 use Rattle.figures.specs.declared.totals.Totals.{Totals}
 use Rattle.rules.specs.declared.Refusal.{Refusal}
 use Rattle.rules.specs.declared.Verdict.{Verdict}
 use Rattle.rules.specs.declared.Verdict.TheVariants.{Accepted, Refused}
-use Rattle.run_loop.specs.Left.{begun, with_keys, RanFrom, Left}
+use Rattle.run_loop.specs.Left.{Left}
 use native.Mathlib.Omega.{arith}
 
 module _ (day : ProcessDay) (b : List ℕ) (o : Opening) (opened : o ≡ window_of day) where
@@ -58,19 +58,3 @@ no_figures v n t e q = refused_apart _ t (sym e ∙ q)
 -- and leaves nothing that counts
 pub leaves_none : (b keys figures : List ℕ) (v : Verdict) (n : ℕ) → v ≡ refused n 0 0 0 → Left b keys figures v
 leaves_none b keys figures v n e = record { found = λ t q. absurd (no_figures v n t e q); figured = λ t q. absurd (no_figures v n t e q) }
-
--- ---- how far the run comes
-no_day_open : (w : Window) → NoDay ≡ Open w → ⊥
-no_day_open w e = let z : ◌≡◌ {A = ℕ} 0 1 = cc in omega arith
-
-same_window : (v w : Window) → Open v ≡ Open w → v ≡ w
-same_window v w e = cc
-
-module _ (day : ProcessDay) (m : Mode) (b : List ℕ) (o : Opening) (opened : o ≡ window_of day) (x : Progress) (w : Window) (open_on : window_of day ≡ Open w) where
-  pub not_open : o ≡ NoDay → x ≡ (run_on m w (running 0 start []) (records_of b)).progress
-  not_open e = absurd (no_day_open w (sym e ∙ opened ∙ open_on))
-
-  pub far_as : (v : Window) (p : Progress) (keys figures keys' figures' : List ℕ) → o ≡ Open v → p ≡ begun → RanFrom m v b p keys figures x keys' figures' → x ≡ (run_on m w (running 0 start []) (records_of b)).progress
-  far_as v p keys figures keys' figures' e f r =
-      sym (ap (λ (y : Running). y.progress) r.ran)
-      ∙ (λ i. (run_on m (same_window v w (sym e ∙ opened ∙ open_on) i) (with_keys (f i) keys) (records_of b)).progress)

@@ -1,17 +1,15 @@
 // Checking a file, of any bytes, on any process day.
 
-ghost use Rattle.std.specs.Prelude.{◌≡◌, [], ◌/◌, ◌≤◌, length};
-ghost use Rattle.dates.specs.Windows.{window_of};
-ghost use Rattle.limits.specs.Limits.{record_bytes, most_records, most_assignments};
+ghost use Rattle.std.specs.Prelude.{◌≡◌, length};
+ghost use Rattle.limits.specs.Limits.{most_assignments};
 ghost use Rattle.operations.specs.Promises.{CheckPromise};
 ghost use Rattle.rules.specs.Refusals.{refused};
-ghost use Rattle.rules.specs.Growth.{start};
-ghost use Rattle.rules.specs.Run.{running, run_on, records_of, bad_length, judge, check_of};
+ghost use Rattle.rules.specs.Run.{bad_length, judge, check_of};
 ghost use Rattle.run_loop.specs.Left.{Left};
 
 use dates::{Opening, ProcessDay, Window};
 use limits::{MOST_ASSIGNMENTS, MOST_RECORDS, RECORD_BYTES};
-use rules::{Mode, Progress, Refusal, Verdict};
+use rules::{Mode, Refusal, Verdict};
 
 // A refusal of the whole input: no record, no field.
 pub fn refuse(number: u8) -> Verdict
@@ -60,19 +58,4 @@ pub fn check(day: ProcessDay, file: &[u8]) -> Verdict
     let mut keys = [0u64; MOST_ASSIGNMENTS];
     let mut figures = [0u64; 0];
     check_into(day, file, &mut keys, &mut figures)
-}
-
-// How far the run over these bytes comes, for whoever tells what stood before a refusal; nowhere on a day that is no date, or over too many records.
-pub fn progress(mode: Mode, day: ProcessDay, bytes: &[u8]) -> Progress
-    ensures { (w : Window) → window_of day ≡ Opening.Open w → length bytes.now / record_bytes ≤ most_records → result ≡ (run_on mode w (running 0 start []) (records_of bytes.now)).progress }
-{
-    let Opening::Open(w) = day.window() else {
-        return run_loop::begin();
-    };
-    if MOST_RECORDS < bytes.len() / RECORD_BYTES {
-        return run_loop::begin();
-    }
-    let mut keys = [0u64; MOST_ASSIGNMENTS];
-    let mut figures = [0u64; 0];
-    run_loop::run_from(mode, w, bytes, run_loop::begin(), &mut keys, &mut figures)
 }

@@ -39,7 +39,7 @@ use Rattle.rules.specs.declared.State.{State}
 use Rattle.rules.proofs.Codes.{twenty}
 use Rattle.run_figures.specs.Blocks.{blocks, figures_from}
 use Rattle.run_figures.proofs.Blocks.{blocks_on, blocks_open}
-use Rattle.run_loop.proofs.Fits.{small_start}
+use Rattle.run_loop.proofs.Loop.{small_start}
 use Rattle.rules.proofs.Records.{rest_start, rest_end}
 use Rattle.field_texts.proofs.Wrote.{Wrote, at_first, behind, told, wrote_length, room_behind}
 use Rattle.write_file.proofs.Ends.{end_length}

@@ -1,6 +1,6 @@
 -- Bytes written one behind the other over the start of a lent list.
 -- Assumes nothing.
-use Prim.Native.Nat.{ℕ, suc, ◌+◌, ◌-◌, ◌≤◌, ◌<◌}
+use Prim.Native.Nat.{ℕ, zero, suc, ◌+◌, ◌-◌, ◌≤◌, ◌<◌}
 use mathlib.Core.Path.{◌≡◌, refl, sym, ap, ap₂, subst, ◌∙◌}
 use mathlib.Core.List.{List, [], ◌∷◌, ◌++◌, append-nil, append_assoc}
 use native.Mathlib.Omega.{arith}
@@ -73,7 +73,7 @@ tail_part at out = take_all (length out - at) (drop at out) (rw length-drop (ome
 pub room_behind : (out : List ℕ) (at n : ℕ) → at + n ≤ length out → n ≤ length (take (length out - at) (drop at out))
 room_behind out at n h = rw (tail_part at out, length-drop) (omega arith)
 
-pub put_tail : (at : ℕ) (out last : List ℕ) → put_mid at (length out - at) out last ≡ take at out ++ last
+put_tail : (at : ℕ) (out last : List ℕ) → put_mid at (length out - at) out last ≡ take at out ++ last
 put_tail at out last =
     let h : length (drop at out) ≤ length out - at = rw length-drop (omega arith) in
     ap (λ (x : List ℕ). take at out ++ (last ++ x)) (drop_of_length-le (drop at out) h) ∙ ap (λ (x : List ℕ). take at out ++ x) (append-nil last)

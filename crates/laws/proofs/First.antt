@@ -22,14 +22,13 @@ use Rattle.rules.specs.Layouts.{rows}
 use Rattle.rules.specs.Growth.{gain, turn, keys, after}
 use Rattle.rules.specs.Run as R
 use Rattle.rules.specs.Refusals.{refused}
-use Rattle.rules.specs.Run.{at_end, run}
+use Rattle.rules.specs.Run.{stepped, step_of, at_end, on_step, run}
 use Rattle.rules.specs.declared.Assignment.{Assignment}
 use Rattle.rules.specs.declared.Mode.{Mode}
 use Rattle.rules.specs.declared.Refusal.{Refusal}
 use Rattle.rules.specs.declared.State.{State}
 use Rattle.rules.specs.declared.Verdict.{Verdict}
 use Rattle.rules.specs.declared.Verdict.TheVariants.{Accepted, Refused}
-use Rattle.rules.proofs.Runs.{step_found, run_next, run_stop, run_end}
 use Rattle.laws.specs.Meets.{gains, turns, all_keys, Meets, Broken, FirstFault}
 
 pub sound_not_fault : (n k : ℕ) → Sound ≡ Fault n k → ⊥
@@ -145,19 +144,20 @@ module _ (m : Mode) (w : Window) where
       go false c p q y = subst (λ (v : Verdict). Stops m w st.file ks st.assignment [] i v) (ap (λ (n : ℕ). refused 6 0 n 0) place ∙ y) (cut_off tt p)
 
   pub stops : (i : ℕ) (st : State) (ks : List ℕ) (rs : List (List ℕ)) (x : Refusal) → run m w i st ks rs ≡ Refused x → Stops m w st.file ks st.assignment rs i (Refused x)
-  stops i st ks [] x e = end_stops i st ks x (sym (run_end m w i st ks) ∙ e)
+  unfolding run
+  stops i st ks [] x e = end_stops i st ks x e
   stops i st ks (r ∷ rs) x e = go (first_fault st.file ks r (rows m w st.assignment r)) refl (λ y. stops (i + 1) (after st r) (ks ++ keys r) rs x y)
     where
+      with_step : (y : Finding) → first_fault st.file ks r (rows m w st.assignment r) ≡ y → on_step (stepped y (after st r)) i (run m w (i + 1) (after st r) (ks ++ keys r) rs) ≡ Refused x
+      with_step y q = sym (ap (λ (z : Finding). on_step (stepped z (after st r)) i (run m w (i + 1) (after st r) (ks ++ keys r) rs)) q) ∙ (unfold step_of in e)
+
       go : (y : Finding) → first_fault st.file ks r (rows m w st.assignment r) ≡ y
           → (run m w (i + 1) (after st r) (ks ++ keys r) rs ≡ Refused x → Stops m w (st.file ⊕ gain r) (ks ++ keys r) (turn r st.assignment) rs (i + 1) (Refused x))
           → Stops m w st.file ks st.assignment (r ∷ rs) i (Refused x)
-      go Sound q ih =
-          stops_later st.file ks st.assignment r rs i (Refused x) (all_of_sound st.file ks r _ q)
-          (ih (sym (run_next m w i st ks r rs (after st r) (step_found m w st ks r Sound q)) ∙ e))
+      go Sound q ih = stops_later st.file ks st.assignment r rs i (Refused x) (all_of_sound st.file ks r _ q) (ih (with_step Sound q))
       go (Fault n k) q ih =
           let p : i + 0 + 1 ≡ i + 1 = omega arith in
-          subst (λ (v : Verdict). Stops m w st.file ks st.assignment (r ∷ rs) i v)
-          (ap (λ (j : ℕ). refused n 0 j k) p ∙ sym (run_stop m w i st ks r rs n k (step_found m w st ks r (Fault n k) q)) ∙ e)
+          subst (λ (v : Verdict). Stops m w st.file ks st.assignment (r ∷ rs) i v) (ap (λ (j : ℕ). refused n 0 j k) p ∙ with_step (Fault n k) q)
           (stopped 0 n k (at_once st.file ks st.assignment r rs n k (broken st.file ks r _ n k q)))
 
   -- ---- the other way
@@ -167,11 +167,11 @@ module _ (m : Mode) (w : Window) where
 
   runs_on : (i : ℕ) (st : State) (ks : List ℕ) (xs ys : List (List ℕ)) → Meets m w st.file ks st.assignment xs
       → run m w i st ks (xs ++ ys) ≡ run m w (i + length xs) (behind_all st xs) (ks ++ all_keys xs) ys
-  unfolding Meets gains turns all_keys
+  unfolding run Meets gains turns all_keys step_of
   runs_on i st ks [] ys h = rw (add-zero i, ⊕-none st.file, append-nil ks)
   runs_on i st ks (x ∷ xs) ys h =
       let e : i + 1 + length xs ≡ i + suc (length xs) = omega arith in
-      run_next m w i st ks x (xs ++ ys) (after st x) (step_found m w st ks x Sound (sound_of_all st.file ks x _ h.0))
+      ap (λ (y : Finding). on_step (stepped y (after st x)) i (run m w (i + 1) (after st x) (ks ++ keys x) (xs ++ ys))) (sound_of_all st.file ks x _ h.0)
       ∙ runs_on (i + 1) (after st x) (ks ++ keys x) xs ys h.1
       ∙ (λ j. run m w (e j) record { file = ⊕-assoc st.file (gain x) (gains xs) j; assignment = turns (turn x st.assignment) xs } (append_assoc ks (keys x) (all_keys xs) j) ys)
 
@@ -185,10 +185,12 @@ module _ (m : Mode) (w : Window) where
 
   stops_here : (i : ℕ) (st : State) (ks r : List ℕ) (rs : List (List ℕ)) (n k : ℕ) → first_fault st.file ks r (rows m w st.assignment r) ≡ Fault n k
       → run m w i st ks (r ∷ rs) ≡ refused n 0 (i + 1) k
-  stops_here i st ks r rs n k e = run_stop m w i st ks r rs n k (step_found m w st ks r (Fault n k) e)
+  unfolding run step_of
+  stops_here i st ks r rs n k e = ap (λ (y : Finding). on_step (stepped y (after st r)) i (run m w (i + 1) (after st r) (ks ++ keys r) rs)) e
 
   runs_to_end : (i : ℕ) (st : State) (ks : List ℕ) (rs : List (List ℕ)) → Meets m w st.file ks st.assignment rs → run m w i st ks rs ≡ at_end m (i + length rs) (behind_all st rs)
-  runs_to_end i st ks rs h = ap (run m w i st ks) (sym (append-nil rs)) ∙ runs_on i st ks rs [] h ∙ run_end m w (i + length rs) (behind_all st rs) (ks ++ all_keys rs)
+  unfolding run
+  runs_to_end i st ks rs h = ap (run m w i st ks) (sym (append-nil rs)) ∙ runs_on i st ks rs [] h
 
   pub stops_so : (i : ℕ) (st : State) (ks : List ℕ) (rs : List (List ℕ)) (v : Verdict) → Stops m w st.file ks st.assignment rs i v → run m w i st ks rs ≡ v
   unfolding at_end

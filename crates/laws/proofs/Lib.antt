@@ -31,4 +31,3 @@ pub mod Transactions
 pub mod FortyTwo
 pub mod Messages
 pub mod MessageFaults
-pub mod Pieces

@@ -18,13 +18,12 @@ use Rattle.rules.specs.Order.{may_end}
 use Rattle.rules.specs.Layouts.{rows}
 use Rattle.rules.specs.Growth.{gain, turn, keys, after}
 use Rattle.rules.specs.Refusals.{refused}
-use Rattle.rules.specs.Run.{ended, at_end, run}
+use Rattle.rules.specs.Run.{stepped, step_of, ended, at_end, on_step, run}
 use Rattle.rules.specs.declared.Assignment.{Assignment}
 use Rattle.rules.specs.declared.Mode.{Mode}
 use Rattle.rules.specs.declared.Refusal.{Refusal}
 use Rattle.rules.specs.declared.State.{State}
 use Rattle.rules.specs.declared.Verdict.TheVariants.{Accepted, Refused}
-use Rattle.rules.proofs.Runs.{step_found, run_next, run_stop, run_end}
 use Rattle.laws.specs.Meets.{gains, turns, all_keys, Meets, Ends}
 
 -- ---- what lists of records add, over joined lists
@@ -76,30 +75,33 @@ ends_accept m i st e = rw (e.may, e.gave)
 -- ---- accepted exactly
 module _ (m : Mode) (w : Window) where
   pub met : (i : ℕ) (st : State) (ks : List ℕ) (rs : List (List ℕ)) (t : Totals) → run m w i st ks rs ≡ Accepted t → Ran m w st.file ks st.assignment rs t
-  unfolding Meets gains turns
+  unfolding run Meets gains turns
   met i st ks [] t e =
-      let d = end_accepts m i st t (sym (run_end m w i st ks) ∙ e) in
+      let d = end_accepts m i st t e in
       record { meets = tt; ends = d.0; total = d.1 ∙ sym (⊕-none st.file) }
   met i st ks (r ∷ rs) t e = go (first_fault st.file ks r (rows m w st.assignment r)) refl (λ x. met (i + 1) (after st r) (ks ++ keys r) rs t x)
     where
+      stepped_run : (x : Finding) → first_fault st.file ks r (rows m w st.assignment r) ≡ x → on_step (stepped x (after st r)) i (run m w (i + 1) (after st r) (ks ++ keys r) rs) ≡ Accepted t
+      stepped_run x q = sym (ap (λ (y : Finding). on_step (stepped y (after st r)) i (run m w (i + 1) (after st r) (ks ++ keys r) rs)) q) ∙ (unfold step_of in e)
+
       go : (x : Finding) → first_fault st.file ks r (rows m w st.assignment r) ≡ x
           → (run m w (i + 1) (after st r) (ks ++ keys r) rs ≡ Accepted t → Ran m w (st.file ⊕ gain r) (ks ++ keys r) (turn r st.assignment) rs t)
           → Ran m w st.file ks st.assignment (r ∷ rs) t
       go Sound q ih =
-          let v = ih (sym (run_next m w i st ks r rs (after st r) (step_found m w st ks r Sound q)) ∙ e) in
+          let v = ih (stepped_run Sound q) in
           record {
             meets = (all_of_sound st.file ks r _ q, v.meets);
             ends = v.ends;
             total = v.total ∙ ⊕-assoc st.file (gain r) (gains rs);
           }
-      go (Fault n k) q ih = absurd (refused_not_accepted _ t (sym (run_stop m w i st ks r rs n k (step_found m w st ks r (Fault n k) q)) ∙ e))
+      go (Fault n k) q ih = absurd (refused_not_accepted _ t (stepped_run (Fault n k) q))
 
   pub runs : (i : ℕ) (st : State) (ks : List ℕ) (rs : List (List ℕ)) → Meets m w st.file ks st.assignment rs → Ends m (turns st.assignment rs)
       → run m w i st ks rs ≡ Accepted (st.file ⊕ gains rs)
-  unfolding Meets gains turns
-  runs i st ks [] h e = run_end m w i st ks ∙ ends_accept m i st e ∙ ap Accepted (sym (⊕-none st.file))
+  unfolding run Meets gains turns step_of
+  runs i st ks [] h e = ends_accept m i st e ∙ ap Accepted (sym (⊕-none st.file))
   runs i st ks (r ∷ rs) h e =
-      run_next m w i st ks r rs (after st r) (step_found m w st ks r Sound (sound_of_all st.file ks r _ h.0))
+      ap (λ (x : Finding). on_step (stepped x (after st r)) i (run m w (i + 1) (after st r) (ks ++ keys r) rs)) (sound_of_all st.file ks r _ h.0)
       ∙ runs (i + 1) (after st r) (ks ++ keys r) rs h.1 e
       ∙ ap Accepted (⊕-assoc st.file (gain r) (gains rs))
 

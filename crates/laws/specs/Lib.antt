@@ -10,4 +10,3 @@ pub mod Partable
 pub mod Tells
 pub mod Messages
 pub mod Saved
-pub mod Pieces

@@ -13,10 +13,6 @@ most_records = 200_000
 abbrev pub most_assignments : ℕ
 most_assignments = 500
 
--- and so many bytes (document 02, No. 5)
-abbrev pub most_bytes : ℕ
-most_bytes = record_bytes * most_records
-
 -- room for the five figures of each assignment, and of what stands before the first
 abbrev pub figure_slots : ℕ
 figure_slots = 5 * (most_assignments + 1)

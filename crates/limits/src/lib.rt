@@ -5,8 +5,6 @@ pub const RECORD_BYTES: usize = 81;
 
 pub const MOST_RECORDS: usize = 200_000;
 
-pub const MOST_BYTES: usize = 16_200_000;
-
 pub const MOST_ASSIGNMENTS: usize = 500;
 
 // Room for the five figures of each assignment, and of what stands before the first.

@@ -1,5 +1,5 @@
 -- What the operations tell a program in C or Rust: sixteen numbers for each answer, in document 01's numbers and values.
---   0         what: 0 refused, 1 accepted, 2 parted, 3 made, 4 more is to come
+--   0         what: 0 refused, 1 accepted, 2 parted, 3 made
 --   1 to 4    of a refusal: number, operand, record, field
 --   5 to 9    figures: assignments, transactions, records, sum, first date
 --   10        bytes written into the output, of a parting into the first
@@ -12,8 +12,6 @@ use Rattle.figures.specs.declared.totals.Totals.{Totals}
 use Rattle.operations.specs.Closing.{file_bytes}
 use Rattle.operations.specs.Parting.{no_boundary}
 use Rattle.limits.specs.Limits.{record_bytes}
-use Rattle.operations.specs.declared.Answer.{Answer}
-use Rattle.operations.specs.declared.Answer.TheVariants.{More, Final}
 use Rattle.operations.specs.declared.Making.{Making}
 use Rattle.operations.specs.declared.Making.TheVariants.{Made, NotMade}
 use Rattle.operations.specs.declared.Parting.{Parting}
@@ -38,11 +36,6 @@ accepted_numbers t written =
 unfoldable pub checked_numbers : Verdict → List ℕ
 checked_numbers (Accepted t) = accepted_numbers t 0
 checked_numbers (Refused x) = refused_numbers x
-
--- a check in pieces answers as checking does, once it has its final answer
-unfoldable pub piece_numbers : Answer → List ℕ
-piece_numbers More = 4 ∷ 0 ∷ 0 ∷ 0 ∷ 0 ∷ 0 ∷ 0 ∷ 0 ∷ 0 ∷ 0 ∷ 0 ∷ 0 ∷ 0 ∷ 0 ∷ 0 ∷ 0 ∷ []
-piece_numbers (Final v) = checked_numbers v
 
 -- closing and joining write the file that the figures are of
 unfoldable pub written_numbers : Verdict → List ℕ

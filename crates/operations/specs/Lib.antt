@@ -3,7 +3,5 @@ pub mod Closing
 pub mod Joining
 pub mod Parting
 pub mod Making
-pub mod Pieces
-pub mod States
 pub mod Answers
 pub mod Promises

@@ -1,13 +1,12 @@
-// What the operations answer, and what they write: the definitions stand in specs/, and the answers of parting and making and of a check in pieces here.
+// What the operations that write answer, and what they write: the definitions stand in specs/, and the answers of parting and making here.
 
 ghost use Rattle.std.specs.Prelude.{◌*◌, ◌≤◌, ◌≡◌, length, take};
 ghost use Rattle.limits.specs.Limits.{record_bytes};
 ghost use Rattle.operations.specs.Parting.{no_boundary};
 
-use dates::Opening;
 use figures::counts::Count;
 use limits::RECORD_BYTES;
-use rules::{Progress, Refusal, Verdict};
+use rules::Refusal;
 
 // What parting answers: how many bytes each part has; how many assignments the file has, if it has no such boundary; or another refusal.
 #[derive(Drop)]
@@ -22,25 +21,6 @@ pub enum Parting {
 pub enum Making {
     Made,
     NotMade(Refusal),
-}
-
-// What a check in pieces answers: more is to come, or its final answer.
-#[derive(Drop)]
-pub enum Answer {
-    More,
-    Final(Verdict),
-}
-
-// A check of a file that arrives in pieces, between two of them.
-#[derive(Drop)]
-pub struct Taking {
-    pub opening: Opening,
-    pub answer: Answer,
-    // how many bytes were taken
-    pub taken: usize,
-    pub progress: Progress,
-    // the bytes of a record that is not whole yet; once a record was refused, that record
-    pub held: [u8; RECORD_BYTES],
 }
 
 // Document 01's refusal where there is no such boundary.

@@ -1,10 +1,9 @@
-// The office's tool: pay check on an input as it comes, pay make, close, join and part over whole files.
+// The office's tool over whole files: pay check, make, close, join and part.
 
 ghost use Rattle.std.specs.Prelude.{◌*◌, ◌≤◌, length};
 ghost use Rattle.limits.specs.Limits.{record_bytes};
 ghost use Rattle.operations.specs.Closing.{file_bytes};
 
-use dates::ProcessDay;
 use figures::counts::Count;
 use figures::totals::Totals;
 use limits::{MOST_RECORDS, RECORD_BYTES};
@@ -22,6 +21,13 @@ const ROOM: usize = RECORD_BYTES * (MOST_RECORDS + 1);
 // Values of a draft of full size with every field written out, and 7 million bytes for remarks.
 const VALUES_ROOM: usize = 24_000_000;
 
+fn check(file: &[u8]) {
+    match check_file::check(asked::day(), file) {
+        Verdict::Accepted(t) => answers::tell_accepted(t),
+        Verdict::Refused(x) => answers::tell_refused(x, Mode::File, file),
+    }
+}
+
 // The file of these figures, which was written into an output, goes to the name that the argument gives.
 fn keep(argument: usize, out: &[u8], t: Totals)
     requires { file_bytes t ≤ length out.now }
@@ -35,18 +41,16 @@ fn keep(argument: usize, out: &[u8], t: Totals)
 }
 
 fn close(draft: &[u8], out: &mut [u8]) {
-    let day = asked::day();
-    match close_draft::close(day, draft, out) {
+    match close_draft::close(asked::day(), draft, out) {
         Verdict::Accepted(t) => keep(4, out, t),
-        Verdict::Refused(x) => answers::tell_refused(x, Mode::Draft, day, draft),
+        Verdict::Refused(x) => answers::tell_refused(x, Mode::Draft, draft),
     }
 }
 
 fn join(first: &[u8], second: &[u8], out: &mut [u8]) {
-    let day = asked::day();
-    match join_files::join(day, first, second, out) {
+    match join_files::join(asked::day(), first, second, out) {
         Verdict::Accepted(t) => keep(5, out, t),
-        Verdict::Refused(x) => answers::tell_which(x, day, first, second),
+        Verdict::Refused(x) => answers::tell_which(x, first, second),
     }
 }
 
@@ -79,16 +83,15 @@ fn keep_parts(first: &[u8], second: &[u8]) {
 }
 
 // A boundary that the file does not have: the refusal, and how many assignments there are.
-fn tell_boundaries(assignments: Count, day: ProcessDay, file: &[u8]) {
-    answers::tell_refused(operations::no_boundary(), Mode::File, day, file);
+fn tell_boundaries(assignments: Count, file: &[u8]) {
+    answers::tell_refused(operations::no_boundary(), Mode::File, file);
     tool_explain::say_boundaries(assignments.0);
 }
 
 fn part(file: &[u8], first: &mut [u8], second: &mut [u8]) {
-    let day = asked::day();
-    match part_file::part(day, file, asked::boundary(), first, second) {
-        Parting::NotParted(x) => answers::tell_refused(x, Mode::File, day, file),
-        Parting::NoBoundary(assignments) => tell_boundaries(assignments, day, file),
+    match part_file::part(asked::day(), file, asked::boundary(), first, second) {
+        Parting::NotParted(x) => answers::tell_refused(x, Mode::File, file),
+        Parting::NoBoundary(assignments) => tell_boundaries(assignments, file),
         Parting::Parted(a, b) => keep_parts(&first[..a], &second[..b]),
     }
 }
@@ -126,10 +129,10 @@ fn read_values(name: &[u8], values: &mut [u8], out: &mut [u8]) {
 // The command on its first file, with room for two more.
 fn serve(file: &[u8], second: &mut [u8], third: &mut [u8]) {
     match asked::command_given() {
+        Command::Check => check(file),
         Command::Close => close(file, second),
         Command::Join => with_second(file, second, third),
         Command::Part => part(file, second, third),
-        Command::Check => help::say_usage(Command::Check),
         Command::Make => help::say_usage(Command::Make),
         Command::Help => help::say_help(),
         Command::Unknown => help::say_usage(Command::Unknown),
@@ -184,7 +187,7 @@ fn with_room(first: &mut [u8; VALUES_ROOM], second: &mut [u8; ROOM], third: &mut
 }
 
 // Room for three files, or for values and a draft, in a frame of its own: a function that calls itself is not merged into its caller, so
-// that check, help and wrong usage need no large stack. It never does call itself: no command line has a million words.
+// that help and wrong usage need no large stack. It never does call itself: no command line has a million words.
 fn hold(again: u64) {
     if 0 < again {
         hold(again - 1);
@@ -205,10 +208,6 @@ fn main() {
     }
     if os::arg_count() != asked::words_of(command) {
         help::say_usage(command);
-        return;
-    }
-    if let Command::Check = command {
-        tool_check::check();
         return;
     }
     // asked for a second time, so that the compiler cannot see that this is 0

@@ -1,16 +1,15 @@
 // The operations for programs in C or Rust: a slice is a pointer and a length, and the answer goes into sixteen lent numbers. include/pay.h declares them.
 
 pub mod make;
-pub mod pieces;
 
 ghost use Rattle.std.specs.Prelude.{◌≡◌};
-ghost use Rattle.operations.specs.Answers.{day_from, refused_numbers, accepted_numbers, checked_numbers, piece_numbers, written_numbers, parted_numbers, made_numbers};
+ghost use Rattle.operations.specs.Answers.{day_from, refused_numbers, accepted_numbers, checked_numbers, written_numbers, parted_numbers, made_numbers};
 ghost use Rattle.operations.specs.Promises.{CheckNumbers, CloseNumbers, JoinNumbers, PartNumbers};
 
 use dates::ProcessDay;
 use figures::totals::Totals;
 use limits::RECORD_BYTES;
-use operations::{Answer, Making, Parting};
+use operations::{Making, Parting};
 use rules::{Refusal, Verdict};
 
 fn tell_refused(x: Refusal, answer: &mut [u64; 16])
@@ -71,18 +70,6 @@ fn tell_checked(verdict: Verdict, answer: &mut [u64; 16])
     match verdict {
         Verdict::Accepted(t) => tell_accepted(t, 0, answer),
         Verdict::Refused(x) => tell_refused(x, answer),
-    }
-}
-
-// What a check in pieces answers.
-fn tell_piece(piece: Answer, answer: &mut [u64; 16])
-    ensures { answer.new ≡ piece_numbers piece }
-{
-    match piece {
-        Answer::More => {
-            *answer = [4, 0, 0, 0, 0, 0, 0, 0, 0, 0, 0, 0, 0, 0, 0, 0];
-        }
-        Answer::Final(verdict) => tell_checked(verdict, answer),
     }
 }
 

@@ -6,7 +6,6 @@ ghost use Rattle.layout.specs.Rows.{first_fault};
 ghost use Rattle.services.specs.Services.{code_for};
 ghost use Rattle.rules.specs.Codes.{service_code};
 ghost use Rattle.rules.specs.Layouts.{head30, tail30};
-ghost use Rattle.record_30_values.specs.Values.{SumsWithin};
 ghost use Rattle.record_30.specs.Paid.{RestBy, PaidBy};
 
 use dates::{Date, Window};
@@ -84,7 +83,7 @@ fn behind_number(
     file: Totals,
     number: TransactionNumber,
 ) -> Paid
-    requires { (length r.now ≡ record_bytes) × (service_code r.now ≡ code_for a.service) × SumsWithin a file }
+    requires { (length r.now ≡ record_bytes) × (service_code r.now ≡ code_for a.service) }
     ensures { (ks : List ℕ) → RestBy w a file ks r.now number result }
 {
     let dated = record_30_values::date(r, w, a);
@@ -115,7 +114,7 @@ fn behind_number(
 
 // Record 30 whole: the first fault in the order of its fields, or what it brings.
 pub fn check30(r: &[u8], w: Window, a: Assignment, file: Totals) -> Paid
-    requires { (length r.now ≡ record_bytes) × SumsWithin a file }
+    requires { length r.now ≡ record_bytes }
     ensures { (ks : List ℕ) → PaidBy w a file ks r.now result }
 {
     let head_found = head(r, a);

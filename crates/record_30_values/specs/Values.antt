@@ -1,7 +1,6 @@
 -- Document 01, "Layouts", record 30: what its number, its date and its amount are found to be.
 -- Assumes nothing.
-use Rattle.std.specs.Prelude.{ℕ, ◌≤◌, ◌≡◌, List}
-use Rattle.limits.specs.Limits.{most_of_all}
+use Rattle.std.specs.Prelude.{ℕ, ◌≡◌, List}
 use Rattle.dates.specs.declared.Window.{Window}
 use Rattle.figures.specs.Figures.{transaction_number}
 use Rattle.figures.specs.declared.totals.Totals.{Totals}
@@ -24,11 +23,6 @@ pub record NumberedBy (a : Assignment) (r : List ℕ) (x : Numbered) : Type 0 wh
 pub record DatedBy (w : Window) (a : Assignment) (r : List ℕ) (x : Dated) : Type 0 where
   pub finding : (f : Totals) (ks : List ℕ) → x.finding ≡ first_fault f ks r (date30 w a r)
   pub date : x.finding ≡ Sound → x.date ≡ date_in r
-
--- the sums before the record are within what a sum can be, so that an amount more does not wrap
-pub record SumsWithin (a : Assignment) (f : Totals) : Type 0 where
-  pub own : a.totals.totals.sum.0 ≤ most_of_all
-  pub whole : f.sum.0 ≤ most_of_all
 
 -- field 8
 pub record PricedBy (a : Assignment) (f : Totals) (r : List ℕ) (x : Priced) : Type 0 where

@@ -5,7 +5,7 @@ ghost use Rattle.limits.specs.Limits.{record_bytes};
 ghost use Rattle.dates.specs.Dates.{day_told, read_day};
 ghost use Rattle.fields.specs.Numbers.{pairs_of};
 ghost use Rattle.rules.specs.Payments.{own_limit, limit_for};
-ghost use Rattle.record_30_values.specs.Values.{NumberedBy, DatedBy, SumsWithin, PricedBy};
+ghost use Rattle.record_30_values.specs.Values.{NumberedBy, DatedBy, PricedBy};
 
 use dates::{Date, Day, Window};
 use field_digits::{DigitPairs, Digits};
@@ -120,9 +120,9 @@ fn limit_for(service: Service) -> Amount
     }
 }
 
-// Field 8: its own limit, the assignment's, the file's. Each sum is taken with the amount, as it is if the record is sound.
+// Field 8: its own limit, the assignment's, the file's.
 pub fn amount(r: &[u8], a: Assignment, file: Totals) -> Priced
-    requires { (length r.now ≡ record_bytes) × SumsWithin a file }
+    requires { length r.now ≡ record_bytes }
     ensures { PricedBy a file r.now result }
 {
     let Digits::Number(n) = fields::number_at(r, 33, 49) else {
@@ -132,17 +132,14 @@ pub fn amount(r: &[u8], a: Assignment, file: Totals) -> Priced
         };
     };
     let amount = Amount(n);
-    let own = a.totals.totals.sum;
-    let whole = file.sum;
-    let sum = own.plus(amount);
-    let whole_sum = whole.plus(amount);
     let service = a.service;
-    let limit = limit_for(service);
+    let sum = a.totals.totals.sum;
+    let whole = file.sum;
     Priced {
         finding: Finding::Sound
             .demand(keeps_own_limit(fields::code_at(r, 5), n), 13, 8)
-            .demand(sum.0 <= limit.0, 13, 8)
-            .demand(whole_sum.0 <= MOST_OF_ALL, 13, 8),
+            .demand(sum.holds(amount, limit_for(service)), 13, 8)
+            .demand(whole.holds(amount, Amount(MOST_OF_ALL)), 13, 8),
         amount,
     }
 }

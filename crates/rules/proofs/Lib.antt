@@ -2,4 +2,3 @@ pub mod Codes
 pub mod Mask
 pub mod Free
 pub mod Records
-pub mod Runs

@@ -20,7 +20,6 @@ use Rattle.rules.specs.declared.Kind.{Kind}
 use Rattle.rules.specs.declared.Mode.{Mode}
 use Rattle.rules.specs.declared.Mode.TheVariants.{File, Draft}
 use Rattle.rules.specs.declared.Assignment.{Assignment}
-use Rattle.rules.specs.declared.Progress.{Progress}
 use Rattle.rules.specs.declared.State.{State}
 use Rattle.rules.specs.declared.Step.{Step}
 use Rattle.rules.specs.declared.Step.TheVariants.{Next, Stop}
@@ -49,48 +48,14 @@ at_end m i st =
     if may_end m st.assignment then (if ended m st.assignment then Accepted st.file else refused 14 0 (i + 1) 0)
     else refused 6 0 (i + 1) 0
 
--- a run on its way: how far it has come, and the keys that it has met
-pub record Running : Type 0 where
-  pub progress : Progress
-  pub keys : List ℕ
+abbrev pub on_step : Step → ℕ → Verdict → Verdict
+on_step (Next s) i v = v
+on_step (Stop n k) i v = refused n 0 (i + 1) k
 
--- after i records, each of them sound
-abbrev pub running : ℕ → State → List ℕ → Running
-running i st ks = record { progress = record { records = i; state = st; finding = Sound }; keys = ks }
-
--- the same, stopped at a fault in the record after them
-abbrev pub stopped : ℕ → State → List ℕ → ℕ → ℕ → Running
-stopped i st ks n k = record { progress = record { records = i; state = st; finding = Fault n k }; keys = ks }
-
--- one record more: a sound one is passed, with its key, and a fault stops the run
-abbrev pub on_step : Step → Running → List ℕ → Running
-on_step (Next s) x r = running (x.progress.records + 1) s (x.keys ++ keys r)
-on_step (Stop n k) x r = stopped x.progress.records x.progress.state x.keys n k
-
--- a run that was stopped stays where it is
-abbrev pub unless_stopped : Finding → Running → Running → Running
-unless_stopped Sound next x = next
-unless_stopped (Fault n k) next x = x
-
-abbrev pub go_on : Mode → Window → Running → List ℕ → Running
-go_on m w x r = unless_stopped x.progress.finding (on_step (step_of m w x.progress.state x.keys r) x r) x
-
--- the records in turn
-unfoldable pub run_on : Mode → Window → Running → List (List ℕ) → Running
-run_on m w x [] = x
-run_on m w x (r ∷ rs) = run_on m w (go_on m w x r) rs
-
--- what a run answers at the end: the fault that stopped it, or what the end finds
-abbrev pub finished_for : Finding → Mode → Progress → Verdict
-finished_for Sound m p = at_end m p.records p.state
-finished_for (Fault n k) m p = refused n 0 (p.records + 1) k
-
-unfoldable pub finished : Mode → Progress → Verdict
-finished m p = finished_for p.finding m p
-
--- the records in turn, after i records that left this state and these keys, and the end
+-- the records in turn, after i records that left this state and these keys
 unfoldable pub run : Mode → Window → ℕ → State → List ℕ → List (List ℕ) → Verdict
-run m w i st ks rs = finished m (run_on m w (running i st ks) rs).progress
+run m w i st ks [] = at_end m i st
+run m w i st ks (r ∷ rs) = on_step (step_of m w st ks r) i (run m w (i + 1) (after st r) (ks ++ keys r) rs)
 
 -- each record is its own 81 bytes: the one after the first k, and all of them
 abbrev pub record_at : ℕ → List ℕ → List ℕ

@@ -10,7 +10,6 @@ use figures::amounts::Amount;
 use figures::counts::TransactionNumber;
 use figures::groups::Group;
 use figures::totals::{AssignmentTotals, Totals};
-use layout::Finding;
 use limits::RECORD_BYTES;
 use services::Service;
 
@@ -83,14 +82,6 @@ pub struct State {
 pub enum Step {
     Next(State),
     Stop(u8, u8),
-}
-
-// How far a run has come: so many sound records, the state after them, and what was found in the next.
-#[derive(Drop)]
-pub struct Progress {
-    pub records: usize,
-    pub state: State,
-    pub finding: Finding,
 }
 
 // A refusal: document 01's number, which of two files (0 outside joining), the record from 1, the field.

@@ -1,4 +1,3 @@
 pub mod Keys
 pub mod Bounds
-pub mod Fits
 pub mod Loop

@@ -23,8 +23,7 @@ pub fn kind_of(r: &[u8]) -> Kind
     kind_for(fields::code_at(r, 7))
 }
 
-// The record type of this number.
-pub fn kind_for(code: u8) -> Kind
+fn kind_for(code: u8) -> Kind
     ensures { result ≡ kind_for code }
 {
     match code {

@@ -1,8 +1,8 @@
 -- What a step says of the record's rows, what the run does behind it, and what a record leaves in keys and figures.
 -- Assumes nothing.
-use Prim.Native.Nat.{ℕ, ◌<◌}
+use Prim.Native.Nat.{ℕ, ◌+◌, ◌<◌}
 use mathlib.Core.Path.{◌≡◌, refl, sym, ap, subst, ◌∙◌}
-use mathlib.Core.List.{List, [], ◌∷◌}
+use mathlib.Core.List.{List, [], ◌∷◌, ◌++◌}
 use mathlib.Core.Bool.{Bool, true, false, ◌&&◌}
 use native.Mathlib.Omega.{arith}
 use borrow.Author.Tests.{ltb-true, ne_eqb}
@@ -14,7 +14,7 @@ use Rattle.limits.specs.Limits.{most_assignments}
 use Rattle.fields.specs.Bytes.{same, part}
 use Rattle.dates.specs.declared.Window.{Window}
 use Rattle.figures.specs.declared.totals.Totals.{Totals}
-use Rattle.layout.specs.Rows.{at, must, passes, first_fault, AllHold}
+use Rattle.layout.specs.Rows.{Row, at, must, passes, first_fault, AllHold}
 use Rattle.layout.specs.declared.Finding.{Finding}
 use Rattle.layout.specs.declared.Finding.TheVariants.{Sound, Fault}
 use Rattle.layout.proofs.Laws.{next, stop, all_of_sound}
@@ -23,7 +23,8 @@ use Rattle.rules.specs.Codes.{kind_of, number_of_kind, key_in}
 use Rattle.rules.specs.Order.{may_follow}
 use Rattle.rules.specs.Layouts.{line_feed, table_for, rows, record20}
 use Rattle.rules.specs.Growth.{after, after_for, keys, keys_for}
-use Rattle.rules.specs.Run.{stepped, kind_step, step_of}
+use Rattle.rules.specs.Refusals.{refused}
+use Rattle.rules.specs.Run.{stepped, kind_step, step_of, on_step, run}
 use Rattle.rules.specs.declared.Assignment.{Assignment}
 use Rattle.rules.specs.declared.Kind.{Kind}
 use Rattle.rules.specs.declared.Kind.TheVariants.{Other}
@@ -31,6 +32,7 @@ use Rattle.rules.specs.declared.Mode.{Mode}
 use Rattle.rules.specs.declared.State.{State}
 use Rattle.rules.specs.declared.Step.{Step}
 use Rattle.rules.specs.declared.Step.TheVariants.{Next, Stop}
+use Rattle.rules.specs.declared.Verdict.{Verdict}
 use Rattle.run_figures.specs.Slots.{put_from, with_figures}
 use Rattle.run_figures.proofs.Slots.{put_none}
 use Rattle.run_step.specs.Took.{keys_of, ended_by, on_next, Took}
@@ -87,6 +89,18 @@ module _ (m : Mode) (w : Window) (st : State) (ks r : List ℕ) where
   unfolding step_of
   not_here h k =
       ap (λ (f : Finding). stepped f (after st r)) (next st.file ks r _ _ h ∙ stop st.file ks r _ _ k)
+
+  -- the run behind a record
+  pub run_next : (i : ℕ) (rs : List (List ℕ)) (s : State) → step_of m w st ks r ≡ Next s
+      → run m w i st ks (r ∷ rs) ≡ run m w (i + 1) s (ks ++ keys r) rs
+  unfolding run
+  run_next i rs s e =
+      ap (λ (x : Step). on_step x i (run m w (i + 1) (after st r) (ks ++ keys r) rs)) e
+      ∙ ap (λ (x : State). run m w (i + 1) x (ks ++ keys r) rs) (went_on s e).1
+
+  pub run_stop : (i : ℕ) (rs : List (List ℕ)) (n k : ℕ) → step_of m w st ks r ≡ Stop n k → run m w i st ks (r ∷ rs) ≡ refused n 0 (i + 1) k
+  unfolding run
+  run_stop i rs n k e = ap (λ (x : Step). on_step x i (run m w (i + 1) (after st r) (ks ++ keys r) rs)) e
 
   -- the rows of the record's own table, where all rows are sound
   pub table_holds : first_fault st.file ks r (rows m w st.assignment r) ≡ Sound → AllHold st.file ks r (table_for (kind_of r) w st.assignment r)

@@ -1,6 +1,6 @@
--- What the words of a command line ask, as the tool's help page has it: a command, the process day DDMMYY, the number K of assignments, standard input.
+-- What the words of a command line ask, as the tool's help page has it: a command, the process day DDMMYY, the number K of assignments.
 -- Assumes nothing.
-use Rattle.std.specs.Prelude.{ℕ, List, Bool, ◌&&◌, leb, eqb, length}
+use Rattle.std.specs.Prelude.{ℕ, List, ◌&&◌, leb, eqb, length}
 use Rattle.choice.specs.Choice.{if◌then◌else◌}
 use Rattle.fields.specs.Bytes.{every, same, is_digit, text}
 use Rattle.fields.specs.Numbers.{value}
@@ -40,7 +40,3 @@ day_from word = if eqb (length word) 6 && every is_digit word then day_written (
 -- a word of at most 17 digits is its number; every other word is 0, and so is the word without a digit
 unfoldable pub number_from : List ℕ → ℕ
 number_from word = if leb (length word) 17 && every is_digit word then value word else 0
-
--- a file that is checked may come on standard input, whose word is -; a file of that name is ./-
-abbrev pub is_standard_input : List ℕ → Bool
-is_standard_input word = same word (text "-")

@@ -1,8 +1,8 @@
-// What the command line asks: the command, the process day, the number of assignments, standard input.
+// What the command line asks: the command, the process day, the number of assignments.
 
 ghost use Rattle.std.specs.Prelude.{◌≡◌};
 ghost use Rattle.fields.specs.Bytes.{same};
-ghost use Rattle.tool_command.specs.CommandLine.{command_from, words_of, no_day, day_from, number_from, is_standard_input};
+ghost use Rattle.tool_command.specs.CommandLine.{command_from, words_of, no_day, day_from, number_from};
 
 use dates::ProcessDay;
 use field_digits::Digits;
@@ -121,11 +121,4 @@ pub fn boundary() -> u64 {
     let mut word = [0u8; 17];
     let n = os::arg(4, &mut word);
     number_from(&word[..n])
-}
-
-// The word for standard input, in the place of a file that is checked.
-pub fn is_standard_input(word: &[u8]) -> bool
-    ensures { result ≡ is_standard_input word.now }
-{
-    is_word(word, b"-")
 }

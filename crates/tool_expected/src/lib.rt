@@ -3,13 +3,10 @@
 ghost use Rattle.std.specs.Prelude.{◌≡◌};
 ghost use Rattle.tool_expected.specs.Expected.{next_number, repeated_for, figure_in, figure_for};
 
-use dates::Date;
 use figures::totals::Totals;
-use rules::{Kind, State};
+use rules::Kind;
 use tool_fixed::Remedy;
-
-// The last transaction number: it has seven digits.
-const LAST_NUMBER: u64 = 9_999_999;
+use tool_walk::{LAST_NUMBER, Seen};
 
 // The number of the record 30 after this one.
 fn next_number(number: u64) -> Remedy
@@ -25,17 +22,16 @@ fn next_number(number: u64) -> Remedy
 }
 
 // What a field must repeat that is refused with 12: the service, the type, the transaction number or the next one.
-pub fn repeated(kind: Kind, field: u8, st: State) -> Remedy
-    ensures { result ≡ repeated_for kind field st }
+pub fn repeated(kind: Kind, field: u8, seen: Seen) -> Remedy
+    ensures { result ≡ repeated_for kind field seen }
 {
-    let a = st.assignment;
-    let service = a.service;
-    let number = a.number;
+    let service = seen.service;
+    let number = seen.number;
     if field == 2 {
         return Remedy::Value(services::code_for(service) as u64, 2);
     }
     if field == 3 {
-        return Remedy::Value(a.code as u64, 2);
+        return Remedy::Value(seen.code as u64, 2);
     }
     if run_order::number_of(kind) == 30 {
         return next_number(number.0 as u64);
@@ -44,31 +40,31 @@ pub fn repeated(kind: Kind, field: u8, st: State) -> Remedy
 }
 
 // A figure of an end record, which counts itself.
-fn figure(field: u8, t: Totals, last: Date) -> Remedy
-    ensures { result ≡ figure_in field t last }
+fn figure(field: u8, t: Totals, seen: Seen) -> Remedy
+    ensures { result ≡ figure_in field t seen }
 {
     let transactions = t.transactions;
     let records = t.records;
     let sum = t.sum;
     let first = t.first;
+    let totals = seen.totals;
     match field {
         5 => Remedy::Value(transactions.0 as u64, 8),
         6 => Remedy::Value(records.0 as u64 + 1, 8),
         7 => Remedy::Value(sum.0, 17),
         8 => Remedy::Value(dates::ddmmyy_of(first), 6),
-        _ => Remedy::Value(dates::ddmmyy_of(last), 6),
+        _ => Remedy::Value(dates::ddmmyy_of(totals.last), 6),
     }
 }
 
 // An 89 has the file's figures, an 88 its assignment's.
-pub fn figure_of(kind: Kind, field: u8, st: State) -> Remedy
-    ensures { result ≡ figure_for kind field st }
+pub fn figure_of(kind: Kind, field: u8, seen: Seen) -> Remedy
+    ensures { result ≡ figure_for kind field seen }
 {
-    let file = st.file;
-    let a = st.assignment;
-    let totals = a.totals;
+    let file = seen.file;
+    let totals = seen.totals;
     if run_order::number_of(kind) == 89 {
-        return figure(field, file, totals.last);
+        return figure(field, file, seen);
     }
-    figure(field, totals.totals, totals.last)
+    figure(field, totals.totals, seen)
 }

@@ -3,12 +3,8 @@
 pub mod answers;
 pub mod remedies;
 
-ghost use Rattle.std.specs.Prelude.{◌≡◌, length};
-ghost use Rattle.limits.specs.Limits.{record_bytes};
-
-use dates::ProcessDay;
 use limits::RECORD_BYTES;
-use rules::{Kind, Mode, Refusal, State};
+use rules::{Kind, Mode, Refusal};
 use tool_phrases::{say, say_number};
 use tool_positions::Positions;
 
@@ -103,9 +99,10 @@ fn say_where(x: Refusal) {
 }
 
 // The letters of a record, and the one after them where that has to be a line feed and is not.
-fn say_record(r: &[u8], number: u8)
-    requires { length r.now ≡ record_bytes }
-{
+fn say_record(r: &[u8], number: u8) {
+    if r.len() != RECORD_BYTES {
+        return;
+    }
     say_letters(&r[0..LINE_FEED]);
     if number == 4 {
         say_letter(r[LINE_FEED]);
@@ -114,9 +111,10 @@ fn say_record(r: &[u8], number: u8)
 }
 
 // The record that was refused, with its field by name, position and underlined.
-fn show(x: Refusal, r: &[u8])
-    requires { length r.now ≡ record_bytes }
-{
+fn show(x: Refusal, r: &[u8]) {
+    if r.len() != RECORD_BYTES {
+        return;
+    }
     let kind = run_order::kind_of(r);
     let service = fields::code_at(r, 3);
     let positions = positions_marked(kind, service, x.number, x.field);
@@ -135,19 +133,22 @@ fn show(x: Refusal, r: &[u8])
     }
 }
 
-// The record that a refusal names, and what would be right in it; where it is missing, what may stand there.
-fn show_record(x: Refusal, mode: Mode, st: State, r: &[u8]) {
-    if x.record == 0 {
+// The record that a refusal names, where the file has it, and what would be right.
+fn show_record(x: Refusal, mode: Mode, file: &[u8]) {
+    let record = x.record as usize;
+    if record == 0 {
         program_lines::end_line();
         return;
     }
-    if r.len() != RECORD_BYTES {
+    if file.len() / RECORD_BYTES < record {
         program_lines::end_line();
-        remedies::say_missing(x.number, mode, st);
+        remedies::say_missing(x.number, mode, file);
         return;
     }
+    let before = record - 1;
+    let r = rules::record_at(file, before);
     show(x, r);
-    remedies::say_right(x, mode, st, r);
+    remedies::say_right(x, mode, &file[0..RECORD_BYTES * before], r);
 }
 
 // What the number alone tells: the right form of a day and a date, and what a message past its limit can do without. It has a text without a place, since there are only as many places as it may have texts.
@@ -165,19 +166,12 @@ pub fn say_form(number: u8) {
     }
 }
 
-// What people read after the machine's line. `r` is the record that is refused, no bytes where it is missing or none is named; `st` is the state that the check held before it.
-pub fn explain(x: Refusal, mode: Mode, st: State, r: &[u8]) {
+// What people read after the machine's line; `file` is the one that the refusal speaks of.
+pub fn explain(x: Refusal, mode: Mode, file: &[u8]) {
     tool_phrases::say_meaning(x.number);
     say_where(x);
-    show_record(x, mode, st, r);
+    show_record(x, mode, file);
     say_form(x.number);
-}
-
-// The same of an input that lies in memory: the state comes from the check's own run over it, the record by its number.
-pub fn explain_in(x: Refusal, mode: Mode, day: ProcessDay, bytes: &[u8]) {
-    let progress = check_file::progress(mode, day, bytes);
-    let st = progress.state;
-    explain(x, mode, st, tool_positions::record_named(x.record, bytes));
 }
 
 // The sender of the first of two files, which the second would have to have.

@@ -1,9 +1,6 @@
 // What would be right, in words.
 
-ghost use Rattle.std.specs.Prelude.{◌≡◌, length};
-ghost use Rattle.limits.specs.Limits.{record_bytes};
-
-use rules::{Mode, Refusal, State};
+use rules::{Mode, Refusal};
 use tool_fixed::{Choice, Remedy};
 use tool_phrases::{say, say_number};
 use tool_remedies::NextTypes;
@@ -108,9 +105,9 @@ fn say_of_draft(mode: Mode) {
 }
 
 // What may stand after the last record, where one is missing.
-pub fn say_missing(number: u8, mode: Mode, st: State) {
+pub fn say_missing(number: u8, mode: Mode, before: &[u8]) {
     if number == 6 {
-        say_types(tool_remedies::types_after(mode, st));
+        say_types(tool_remedies::types_after(mode, before));
     }
 }
 
@@ -123,17 +120,15 @@ fn say_caution(number: u8) {
 }
 
 // What would be right in a refused record, where the rules know it.
-pub fn say_right(x: Refusal, mode: Mode, st: State, r: &[u8])
-    requires { length r.now ≡ record_bytes }
-{
+pub fn say_right(x: Refusal, mode: Mode, before: &[u8], r: &[u8]) {
     if x.number == 5 {
-        say_types(tool_remedies::types_after(mode, st));
+        say_types(tool_remedies::types_after(mode, before));
         say_of_draft(mode);
         return;
     }
     say_caution(x.number);
     say_remedy(
         x.number,
-        tool_remedies::remedy_for(x.number, x.field, st, r),
+        tool_remedies::remedy_for(x.number, x.field, before, r),
     );
 }

@@ -1,4 +1,4 @@
-// Files by name: an input read whole or as it comes, an output that takes its name only when it is whole.
+// Files by name: an input read whole, an output that takes its name only when it is whole.
 
 use tool_phrases::say;
 
@@ -8,7 +8,6 @@ fn say_error(error: i32) {
         libc::ENOENT => say(b"there is no such file or folder"),
         libc::EACCES => say(b"you have no permission for this"),
         libc::EPERM => say(b"you have no permission for this"),
-        libc::EBADF => say(b"it is not open"),
         libc::EISDIR => say(b"it is a folder"),
         libc::ENOTDIR => say(b"a file stands where a folder should"),
         libc::EINVAL => say(b"it is neither a file nor a folder"),
@@ -37,26 +36,6 @@ pub fn open_input(name: &[u8]) -> i32 {
         trouble(name, os::errno());
     }
     fd
-}
-
-// What cannot be read, as a folder or a closed input, is known by a read of no bytes; trouble is told.
-pub fn readable(fd: i32, name: &[u8]) -> bool {
-    let mut none = [0u8; 0];
-    if libc::read(fd, &mut none) < 0 {
-        trouble(name, os::errno());
-        return false;
-    }
-    true
-}
-
-// After a read that failed: one that a signal broke off is to be tried again, other trouble is told.
-pub fn broken_off(name: &[u8]) -> bool {
-    let error = os::errno();
-    if error == libc::EINTR {
-        return true;
-    }
-    trouble(name, error);
-    false
 }
 
 // After a full buffer or the end of an input nothing more may come; trouble is told, with how long it may be.

@@ -6,7 +6,7 @@ use tool_command::Command;
 // How one command is used.
 pub fn say_usage(command: Command) {
     match command {
-        Command::Check => say(b"usage: pay check DDMMYY FILE\nFILE may be - for standard input.\n"),
+        Command::Check => say(b"usage: pay check DDMMYY FILE\n"),
         Command::Make => say(b"usage: pay make VALUES DRAFT\n"),
         Command::Close => say(b"usage: pay close DDMMYY DRAFT OUT\n"),
         Command::Join => say(b"usage: pay join DDMMYY FIRST SECOND OUT\n"),
@@ -34,7 +34,6 @@ fn say_commands() {
     say(b"pay help                            Prints this page.\n");
     say(b"\n");
     say(b"DDMMYY is the process day: 011025 is 1 October 2025.\n");
-    say(b"For check, FILE may be - for standard input; a file of that name is ./-.\n");
     say(b"\n");
 }
 

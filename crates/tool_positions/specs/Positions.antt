@@ -1,9 +1,7 @@
--- Document 01, "Layouts", and document 02, No. 2: the last position of each field of a record, with 0 before the first; and the record that a refusal names.
+-- Document 01, "Layouts", and document 02, No. 2: the last position of each field of a record, with 0 before the first.
 -- Assumes nothing.
-use Rattle.std.specs.Prelude.{ℕ, ◌+◌, ◌-◌, ◌/◌, List, [], ◌∷◌, eqb, ltb, length, get_or}
+use Rattle.std.specs.Prelude.{ℕ, ◌+◌, ◌-◌, List, [], ◌∷◌, eqb, ltb, get_or}
 use Rattle.choice.specs.Choice.{if◌then◌else◌}
-use Rattle.limits.specs.Limits.{record_bytes}
-use Rattle.rules.specs.Run.{record_at}
 use Rattle.rules.specs.declared.Kind.{Kind}
 use Rattle.rules.specs.declared.Kind.TheVariants.{R10, R20, R30, R31, R40, R41, R49, R50, R88, R89, Other}
 use Rattle.tool_positions.specs.declared.Positions.{Positions}
@@ -39,7 +37,3 @@ positions_in ends field =
 
 abbrev pub positions_of : Kind → ℕ → ℕ → Positions
 positions_of k s field = positions_in (ends_of k s) field
-
--- the record of a number, counted from 1; no bytes where none is named, or the input does not have it
-unfoldable pub record_named : ℕ → List ℕ → List ℕ
-record_named n b = if ltb n 1 then [] else (if ltb (length b / record_bytes) n then [] else record_at (n - 1) b)

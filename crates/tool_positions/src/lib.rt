@@ -1,10 +1,9 @@
-// Where the fields of a record stand, positions counted from 1, and which record a refusal names.
+// Where the fields of a record stand, positions counted from 1.
 
 ghost use Rattle.std.specs.Prelude.{◌≡◌};
-ghost use Rattle.tool_positions.specs.Positions.{ends_of, message_ends, nowhere, positions_of, record_named};
+ghost use Rattle.tool_positions.specs.Positions.{ends_of, message_ends, nowhere, positions_of};
 
 use field_words::wide;
-use limits::RECORD_BYTES;
 use rules::Kind;
 
 #[derive(Drop)]
@@ -63,18 +62,4 @@ pub fn positions_of(kind: Kind, service: u8, field: usize) -> Positions
         from: wide(ends[field - 1]) + 1,
         to: wide(ends[field]),
     }
-}
-
-// The record of a number, counted from 1; no bytes where none is named, or the input does not have it.
-pub fn record_named(record: u64, bytes: &[u8]) -> &[u8]
-    ensures { result.now ≡ record_named «record» bytes.now }
-{
-    let n = record as usize;
-    if n < 1 {
-        return &bytes[0..0];
-    }
-    if bytes.len() / RECORD_BYTES < n {
-        return &bytes[0..0];
-    }
-    rules::record_at(bytes, n - 1)
 }

@@ -2,12 +2,19 @@
 
 ghost use Rattle.std.specs.Prelude.{◌≡◌, length};
 ghost use Rattle.limits.specs.Limits.{record_bytes};
+ghost use Rattle.figures.specs.Totals.{none};
 ghost use Rattle.fields.specs.Accounts.{account_of};
-ghost use Rattle.tool_remedies.specs.Remedies.{account_part, account_for, remedy_for, next_types};
+ghost use Rattle.rules.specs.Run.{records_of};
+ghost use Rattle.tool_walk.specs.Seen.{outside_of, seen_in, Followed};
+ghost use Rattle.tool_remedies.specs.Remedies.{account_part, account_for, remedy_for, at_hand, next_types};
 
 use field_accounts::Account;
-use rules::{Kind, Mode, State};
+use figures::amounts::Amount;
+use figures::groups::Group;
+use limits::RECORD_BYTES;
+use rules::{Assignment, Kind, Mode, Places};
 use tool_fixed::Remedy;
+use tool_walk::Seen;
 
 // The record types that may stand next.
 #[derive(Drop)]
@@ -47,26 +54,60 @@ fn account_in(kind: Kind, r: &[u8]) -> Account
     fields::account_at(r, 22, 32)
 }
 
-// What would be right in this field of the record after those that left the state.
-pub fn remedy_for(number: u8, field: u8, st: State, r: &[u8]) -> Remedy
-    requires { length r.now ≡ record_bytes }
-    ensures { result ≡ remedy_for number field st r.now }
+// What would be right in this field of the record after the others.
+pub fn remedy_for(number: u8, field: u8, before: &[u8], r: &[u8]) -> Remedy
+    ensures { length r.now ≡ record_bytes → Followed (outside_of Kind.Other none) (records_of before.now) → result ≡ remedy_for number field (seen_in (records_of before.now)) r.now }
 {
+    if r.len() != RECORD_BYTES {
+        return Remedy::Unknown;
+    }
     let kind = run_order::kind_of(r);
     match number {
         7 => tool_fixed::fixed(kind, field, fields::code_at(r, 3)),
         11 => account(kind, r),
-        12 => tool_expected::repeated(kind, field, st),
-        18 => tool_expected::figure_of(kind, field, st),
+        12 => tool_expected::repeated(kind, field, tool_walk::seen_in(before)),
+        18 => tool_expected::figure_of(kind, field, tool_walk::seen_in(before)),
         _ => Remedy::Unknown,
     }
 }
 
-// The record types that may stand after those that left the state, in a file or in a draft.
-pub fn types_after(mode: Mode, st: State) -> NextTypes
-    ensures { result ≡ next_types mode st }
+// The assignment at hand, as far as it decides what may follow.
+fn at_hand(seen: Seen) -> Assignment
+    ensures { result ≡ at_hand seen }
 {
-    let a = st.assignment;
+    let last = seen.last;
+    let service = seen.service;
+    let totals = seen.totals;
+    let number = seen.number;
+    Assignment {
+        last,
+        service,
+        totals,
+        number,
+        code: seen.code,
+        due: Amount(0),
+        group: Group {
+            specified: Amount(0),
+            credited: Amount(0),
+        },
+        places: Places {
+            mask: 0,
+            unplaced: 0,
+        },
+    }
+}
+
+// The record types that may stand after these records, in a file or in a draft.
+pub fn types_after(mode: Mode, before: &[u8]) -> NextTypes
+    ensures { Followed (outside_of Kind.Other none) (records_of before.now) → result ≡ next_types mode (seen_in (records_of before.now)) }
+{
+    next_types(mode, tool_walk::seen_in(before))
+}
+
+fn next_types(mode: Mode, seen: Seen) -> NextTypes
+    ensures { result ≡ next_types mode seen }
+{
+    let a = at_hand(seen);
     NextTypes {
         r10: run_order::may_follow(mode, a, Kind::R10),
         r20: run_order::may_follow(mode, a, Kind::R20),

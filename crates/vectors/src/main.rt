@@ -1,7 +1,5 @@
 // Outside vectors: numbered files, each a line that says what is asked and then the input; one line of answer for each.
 
-mod pieces;
-
 ghost use Rattle.std.specs.Prelude.{◌+◌, ◌≤◌, ◌<◌, length};
 
 use dates::ProcessDay;
@@ -133,21 +131,6 @@ fn make(all: &[u8], out: &mut [u8])
     program_lines::print_number(hash(&out[0..room]));
 }
 
-// `take  DDMMYY FIRST SIZE LATE`, then a file in pieces, the last bytes of which come after the end.
-fn take(all: &[u8])
-    requires { 34 ≤ length all.now }
-{
-    let late = pieces::shorter(six_at(all, 28) as usize, all.len() - 34);
-    let end = all.len() - late;
-    pieces::hand_in(
-        program_lines::process_day(six_at(all, 7)),
-        &all[34..end],
-        &all[end..],
-        six_at(all, 14) as usize,
-        six_at(all, 21) as usize,
-    );
-}
-
 // By the first two letters of the first line; outputs hold `#` before anything is written.
 fn answer(all: &[u8]) {
     if all.len() < 34 {
@@ -163,9 +146,6 @@ fn answer(all: &[u8]) {
     }
     if all[0] == b'm' {
         return make(all, &mut first);
-    }
-    if all[0] == b't' {
-        return take(all);
     }
     if all[1] == b'l' {
         return close(all, &mut first);

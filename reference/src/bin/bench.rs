@@ -1,13 +1,12 @@
 //! Times the proved operations and this implementation in one process, turn by
-//! turn: on a season's file, whole and in pieces, on one with second addresses and messages
-//! of service 04, and on files of other sizes. `bench [PICTURE.svg]` also draws how the cost grows.
+//! turn: on a season's file, on one with second addresses and messages of service 04,
+//! and on files of other sizes. `bench [PICTURE.svg]` also draws how the cost grows.
 
 #[path = "../archive.rs"]
 mod archive;
 #[path = "../picture.rs"]
 mod picture;
 
-use archive::Step;
 use picture::{Line, Panel};
 use reference::answer::{Answer, PLACES, Place, What, of_making};
 use reference::cases::{Case, Operation, answer};
@@ -240,101 +239,6 @@ fn season() {
     println!("{}", row("memcpy", "floor", Times::of(copies), records));
 }
 
-/// What the check in pieces is given: so many bytes at a time, and last all at once.
-const LENGTHS: [usize; 8] = [1, 7, 80, 81, 82, 4_096, 65_536, usize::MAX];
-/// Many small pieces take long. As many runs are made as take so many seconds.
-const SECONDS: f64 = 10.0;
-
-/// A file to be checked in pieces of one length.
-struct Cutting<'a> {
-    file: &'a [u8],
-    length: usize,
-}
-
-impl Cutting<'_> {
-    fn pieces(&self) -> impl Iterator<Item = &[u8]> {
-        self.file.chunks(self.length).map(black_box)
-    }
-
-    fn ask_archive(&self) {
-        let (mut state, mut answer) = ([0; archive::STATE], [0; PLACES]);
-        archive::step(&mut state, Step::Start(DAY), &mut answer);
-        for piece in self.pieces() {
-            archive::step(&mut state, Step::Take(piece), &mut answer);
-            assert!(answer[Place::What as usize] == What::More as u64, "{answer:?}");
-        }
-        archive::step(&mut state, Step::End, &mut answer);
-        assert!(answer[Place::What as usize] == What::Accepted as u64, "{answer:?}");
-    }
-
-    fn ask_reference(&self) {
-        let mut state = reference::start(DAY);
-        for piece in self.pieces() {
-            assert!(state.take(piece).is_none());
-        }
-        assert!(state.end().is_some_and(|verdict| verdict.is_ok()));
-    }
-
-    fn name(&self) -> String {
-        if self.length < self.file.len() { self.length.to_string() } else { "whole".into() }
-    }
-}
-
-/// The times of these works, turn by turn, after one run that is not counted.
-fn by_turns(works: &[&dyn Fn()]) -> Vec<Times> {
-    let first: f64 = works.iter().map(|work| time(1, work)).sum();
-    let runs = ((SECONDS / first) as usize).clamp(1, RUNS);
-    let mut seconds = vec![Vec::new(); works.len()];
-    for _ in 0..runs {
-        for (seconds, work) in seconds.iter_mut().zip(works) {
-            seconds.push(time(1, work));
-        }
-    }
-    seconds.into_iter().map(Times::of).collect()
-}
-
-/// In pieces, nanoseconds for a record and for a byte; for a record of the whole check in the same
-/// runs; and how much longer the pieces take.
-fn in_pieces_row(pieces: &str, who: &str, times: &[Times], records: usize) {
-    let [cut, whole] = [times[0], times[1]];
-    println!(
-        "{pieces:<7} {who:<10} {:>9.2} {:>9.2} {:>9.3} {:>9.2}  {:.2} : 1 (best {:.2} : 1)",
-        per_record(cut.median, records),
-        per_record(cut.best, records),
-        per_record(cut.median, records) / RECORD as f64,
-        per_record(whole.median, records),
-        cut.median / whole.median,
-        cut.best / whole.best
-    );
-}
-
-/// The season's file in pieces, beside the whole check of the same file.
-fn in_pieces() {
-    let (_, file) = draft_and_file(Plan::SEASON);
-    let records = file.len() / RECORD;
-    let operations = archive::operations();
-    let has = [Operation::Check, Operation::Take].iter().all(|each| operations.contains(each));
-    let check = Work { case: Case::new(Operation::Check, DAY, file.clone()), records };
-    println!("\nthe season's file in pieces of so many bytes, and whole (median, turn by turn)");
-    println!("pieces              ns/record      best   ns/byte     whole  pieces : whole");
-    for length in LENGTHS {
-        let cutting = Cutting { file: &file, length };
-        let of_archive: [&dyn Fn(); 2] =
-            [&|| cutting.ask_archive(), &|| check.ask_archive(&mut [], &mut [])];
-        let of_reference: [&dyn Fn(); 2] =
-            [&|| cutting.ask_reference(), &|| check.ask_reference(&mut [], &mut [])];
-        let name = cutting.name();
-        if has {
-            let times = by_turns(&[of_archive, of_reference].concat());
-            in_pieces_row(&name, "archive", &times[..2], records);
-            in_pieces_row(&name, "reference", &times[2..], records);
-        } else {
-            println!("{name:<7} archive    has it not");
-            in_pieces_row(&name, "reference", &by_turns(&of_reference), records);
-        }
-    }
-}
-
 /// What the season's file has not: records 41, and 49 of service 04.
 fn notices() {
     let (draft, file) = draft_and_file(Plan::NOTICES);
@@ -456,7 +360,6 @@ fn main() -> ExitCode {
         return ExitCode::from(2);
     }
     season();
-    in_pieces();
     notices();
     let panels = growth();
     let path = std::env::args().nth(1);

@@ -6,19 +6,12 @@
 
 #[path = "../archive.rs"]
 mod archive;
-#[path = "../states.rs"]
-mod states;
 
 use reference::answer::{Answer, PLACES, Place};
-use reference::cases::{Case, Operation, answer, case, in_pieces};
-use reference::cuttings::{self, Call};
-use reference::random::Random;
-use reference::sample::DAY;
-use reference::{RECORD, Variant, records, vectors};
+use reference::cases::{Case, Operation, answer, case};
+use reference::{RECORD, Variant, vectors};
 use std::collections::BTreeMap;
 use std::process::ExitCode;
-use std::sync::Arc;
-use std::sync::atomic::{AtomicU64, Ordering};
 
 /// Bytes around a lent output that nobody may touch.
 const MARGIN: usize = 96;
@@ -44,34 +37,17 @@ impl Lent {
 struct Outcome {
     answer: Answer,
     outputs: [Vec<u8>; 2],
-    /// Of a check in pieces: what each call answered.
-    steps: Vec<Answer>,
-}
-
-impl Outcome {
-    /// The answers of a check in pieces, which has no outputs.
-    fn of_steps(steps: Vec<Answer>) -> Self {
-        let answer = *steps.last().expect("that of the start");
-        Self { answer, outputs: [vec![], vec![]], steps }
-    }
 }
 
 /// The answer of this implementation.
 fn expected(case: &Case, variant: Variant) -> Outcome {
-    if case.operation == Operation::Take {
-        let steps = cuttings::answers(variant, case.day, &case.first, &case.calls);
-        return Outcome::of_steps(steps);
-    }
     let [mut one, mut two] = case.rooms.map(Lent::new);
     let answer = answer(case, variant, one.out(), two.out());
-    Outcome { answer, outputs: [one.all, two.all], steps: vec![] }
+    Outcome { answer, outputs: [one.all, two.all] }
 }
 
 /// The answer of the archive, which has this operation. Its inputs stay.
 fn found(case: &Case) -> Outcome {
-    if case.operation == Operation::Take {
-        return Outcome::of_steps(states::answers(case.day, &case.first, &case.calls));
-    }
     let [mut one, mut two] = case.rooms.map(Lent::new);
     let before = case.clone();
     let answer = archive::ask(case, one.out(), two.out()).expect("the archive has the operation");
@@ -79,7 +55,7 @@ fn found(case: &Case) -> Outcome {
         before.first == case.first && before.second == case.second && before.texts == case.texts,
         "an input was changed"
     );
-    Outcome { answer, outputs: [one.all, two.all], steps: vec![] }
+    Outcome { answer, outputs: [one.all, two.all] }
 }
 
 /// Whether a sound draft that was made of its values is what was foretold and can be closed.
@@ -105,25 +81,13 @@ fn without(case: &Case, of_second: bool, from: usize, records: usize) -> Option<
     Some(smaller)
 }
 
-/// Inputs of more records than this stay as they are: to leave out each of them takes too long.
-const LONG: usize = 10_000;
-
-/// The case without this call, of a check in pieces.
-fn without_call(case: &Case, at: usize) -> Option<Case> {
-    let mut smaller = case.clone();
-    (at < case.calls.len()).then(|| smaller.calls.remove(at))?;
-    Some(smaller)
-}
-
-/// Leaves out runs of records, long ones first, and then calls, as long as the
-/// answers still differ. What a record is made of is small as it is, and so are
-/// lines.
+/// Leaves out runs of records, long ones first, as long as the answers still
+/// differ. What a record is made of is small as it is, and so are lines.
 fn smallest(mut case: Case) -> Case {
     if case.values().is_some() || case.operation == Operation::MakeDraft {
         return case;
     }
-    let records = case.first.len().max(case.second.len()) / RECORD;
-    let mut run = if records > LONG { 0 } else { records };
+    let mut run = case.first.len().max(case.second.len()) / RECORD;
     while run > 0 {
         for of_second in [false, true] {
             let mut from = 0;
@@ -136,14 +100,6 @@ fn smallest(mut case: Case) -> Case {
             }
         }
         run /= 2;
-    }
-    let mut at = 0;
-    while let Some(smaller) = without_call(&case, at) {
-        if differs(&smaller) {
-            case = smaller;
-        } else {
-            at += 1;
-        }
     }
     case
 }
@@ -170,24 +126,9 @@ fn report_answers(expected: &Answer, found: &Answer) {
     }
 }
 
-/// The calls of a check in pieces, and the first answer that differs, or the last.
-fn report_steps(case: &Case, expected: &[Answer], found: &[Answer]) {
-    println!("{} day {:?}", case.operation.name(), case.day);
-    println!("calls: {:?}", case.calls);
-    show("input", &case.first);
-    let first = expected.iter().zip(found).position(|(a, b)| a != b);
-    let at = first.unwrap_or(expected.len() - 1);
-    println!("the answer to call {at}, 0 being the start:");
-    report_answers(&expected[at], &found[at]);
-}
-
 fn report(case: &Case) {
     let Case { operation, day, first, second, k, rooms, .. } = case;
     let name = operation.name();
-    if *operation == Operation::Take {
-        let (expected, found) = (expected(case, Variant::PLAIN), found(case));
-        return report_steps(case, &expected.steps, &found.steps);
-    }
     if let Some(values) = case.values() {
         println!("{name} output of {} bytes", rooms[0]);
         println!("numbers: {:?}", case.numbers);
@@ -320,143 +261,28 @@ fn run_vectors(folder: &str) -> ExitCode {
     success(asked > 0 && differ == 0 && operations == Operation::ALL)
 }
 
-/// What was asked of the check in pieces.
-#[derive(Default)]
-struct Cut {
-    cuttings: u64,
-    calls: u64,
-    copies: u64,
-    /// Calls with a state that no start made.
-    wild: u64,
-}
-
-impl Cut {
-    fn add(&mut self, calls: &[Call]) {
-        let (copies, answered) = cuttings::counted(calls);
-        self.cuttings += 1;
-        self.copies += copies;
-        self.calls += answered;
-    }
-
-    fn print(&self) {
-        let Self { cuttings, calls, copies, wild } = self;
-        println!("{cuttings} cuttings asked in {calls} calls, {copies} states copied on the way");
-        println!("{wild} calls with a state that no start made, all of them answered");
-    }
-}
-
-/// Asks the archive and both variants; says where they differ.
-fn agree(name: &str, case: &Case, expected: &Outcome) -> bool {
-    if self::expected(case, Variant::FAST) != *expected {
-        println!("{name}: the plain and the fast variant differ");
-        return false;
-    }
-    if !comes_out(case, expected) {
-        println!("{name}: the draft made is not the one foretold");
-        report(case);
-        return false;
-    }
-    if found(case) != *expected {
-        println!("{name} differs; the smallest found:");
-        report(&smallest(case.clone()));
-        return false;
-    }
-    true
-}
-
-/// The same for a check in pieces, which has to be the whole one besides.
-fn agree_in_pieces(name: &str, case: &Case) -> bool {
-    let expected = expected(case, Variant::PLAIN);
-    let whole = cuttings::by_whole(Variant::PLAIN, case.day, &case.first, &case.calls);
-    if expected.steps != whole {
-        println!("{name}: the check in pieces is not the whole one");
-        report_steps(case, &whole, &expected.steps);
-        return false;
-    }
-    agree(name, case, &expected)
-}
-
-/// The file of a checking case in pieces, and now and then with a state that no start made.
-fn agree_cut(name: &str, case: &Case, random: &mut Random, cut: &mut Cut) -> bool {
-    for case in in_pieces(case, random) {
-        cut.add(&case.calls);
-        if !agree_in_pieces(name, &case) {
-            return false;
-        }
-        if random.percent(5) {
-            cut.wild += states::bears(random, case.day, &case.first, &case.calls);
-        }
-    }
-    true
-}
-
-/// An input in pieces that every run has.
-fn agree_always(name: &str, input: &[u8], calls: Vec<Call>, cut: &mut Cut) -> bool {
-    cut.add(&calls);
-    agree_in_pieces(name, &Case { calls, ..Case::new(Operation::Take, DAY, input.to_vec()) })
-}
-
-/// Document 01's file, cut at every place.
-fn agree_at_every_place(cut: &mut Cut) -> bool {
-    let file = records::whole();
-    (0..=file.len()).all(|at| {
-        let name = format!("document 01's file, cut at {at},");
-        agree_always(&name, &file, cuttings::in_two(file.len(), at), cut)
-    })
-}
-
-/// A file of as many bytes as there may be, sound or not, and some bytes more.
-fn agree_at_the_limit(seed: u64, cut: &mut Cut) -> bool {
-    let mut random = Random(seed);
-    let sound = records::long_file(1, 99_998);
-    let faulty = records::with(&sound, 7, 33, "x");
-    [sound, faulty].into_iter().all(|mut file| {
-        [0, 1, 80].into_iter().all(|more| {
-            file.resize(file.len() + more, b'0');
-            let name = format!("an input of {} bytes", file.len());
-            let calls = cuttings::by_chance(&mut random, file.len());
-            agree_always(&name, &file, calls, cut)
-        })
-    })
-}
-
-/// Where something is wrong beyond an answer, says which case it was.
-fn named_on_panic(seed: u64) -> Arc<AtomicU64> {
-    let at = Arc::new(AtomicU64::new(0));
-    let (case, usual) = (at.clone(), std::panic::take_hook());
-    std::panic::set_hook(Box::new(move |panic| {
-        println!("in case {} of seed {seed}, or before it:", case.load(Ordering::Relaxed));
-        usual(panic);
-    }));
-    at
-}
-
-/// The cuttings of a case are drawn apart, so that the case is the same without them.
-fn cutter(seed: u64, index: u64) -> Random {
-    Random::of_case(!seed, index)
-}
-
 fn run(cases: u64, seed: u64) -> ExitCode {
     let operations = operations();
-    let cuts = operations.contains(&Operation::Take);
     let mut histogram = Histogram::default();
-    let (mut drafts, mut cut) = (0, Cut::default());
-    let at = named_on_panic(seed);
-    if cuts && !(agree_at_every_place(&mut cut) && agree_at_the_limit(seed, &mut cut)) {
-        return ExitCode::FAILURE;
-    }
+    let mut drafts = 0;
     for index in 0..cases {
-        at.store(index, Ordering::Relaxed);
-        let name = format!("case {index} of seed {seed}");
         let case = case(seed, index, &operations);
         let expected = expected(&case, Variant::PLAIN);
         histogram.add(&case, &expected.answer);
+        if self::expected(&case, Variant::FAST) != expected {
+            println!("case {index} of seed {seed}: the plain and the fast variant differ");
+            return ExitCode::FAILURE;
+        }
+        if !comes_out(&case, &expected) {
+            println!("case {index} of seed {seed}: the draft made is not the one foretold");
+            report(&case);
+            return ExitCode::FAILURE;
+        }
         drafts += u64::from(case.operation == Operation::MakeDraft && !case.second.is_empty());
-        let is_cut = cuts && case.operation == Operation::Check;
-        if !agree(&name, &case, &expected)
-            || is_cut && !agree_cut(&name, &case, &mut cutter(seed, index), &mut cut)
-        {
-            println!("again: compare case {seed} {index}");
+        if found(&case) != expected {
+            println!("case {index} of seed {seed} differs; again: compare case {seed} {index}");
+            println!("the smallest found:");
+            report(&smallest(case));
             return ExitCode::FAILURE;
         }
     }
@@ -464,23 +290,8 @@ fn run(cases: u64, seed: u64) -> ExitCode {
     if drafts > 0 {
         println!("{drafts} sound drafts made of their values, all of them closed");
     }
-    if cuts {
-        cut.print();
-    }
     println!("{cases} cases, 0 differ");
     success(operations == Operation::ALL)
-}
-
-/// Prints a case, and one of its cuttings.
-fn show_case(seed: u64, index: u64) -> ExitCode {
-    let operations = archive::operations();
-    let case = case(seed, index, &operations);
-    report(&case);
-    if case.operation == Operation::Check && operations.contains(&Operation::Take) {
-        let cut = in_pieces(&case, &mut cutter(seed, index));
-        report(cut.iter().find(|cut| differs(cut)).unwrap_or(&cut[0]));
-    }
-    ExitCode::SUCCESS
 }
 
 fn main() -> ExitCode {
@@ -493,7 +304,10 @@ fn main() -> ExitCode {
     }
     match words[..] {
         ["case", seed, index] => match (number(seed), number(index)) {
-            (Some(seed), Some(index)) => return show_case(seed, index),
+            (Some(seed), Some(index)) => {
+                report(&case(seed, index, &archive::operations()));
+                return ExitCode::SUCCESS;
+            }
             _ => eprintln!("compare case SEED INDEX"),
         },
         ["vectors", folder] => return run_vectors(folder),

@@ -1,6 +1,6 @@
 //! Makes the outside vectors: keeps those for checking, makes those for
-//! closing, joining, parting and making anew, behind them those on wide amounts
-//! and those in pieces, and answers every one of them.
+//! closing, joining, parting and making anew, and those on wide amounts behind
+//! them, and answers every one of them.
 //!
 //! `vectors FOLDER`: the vectors lie in FOLDER/data, the lines in FOLDER/stdout.
 
@@ -913,141 +913,6 @@ fn wide_closings() -> Vec<Case> {
     every_width().iter().map(|draft| close(draft)).collect()
 }
 
-fn take(input: &[u8], first: usize, step: usize) -> Case {
-    vectors::taking(DAY, input.to_vec(), first, step, 0)
-}
-
-/// Sound files, cut in many ways.
-fn sound_takings() -> Vec<Case> {
-    let (file, kinds, notified) = (whole(), every_kind(), notified());
-    // One piece, two, and pieces of one length; the first empty, or longer than all.
-    let cuts = [(486, 0), (999_999, 7), (0, 0), (1, 0), (485, 0)];
-    let steps = [(0, 1), (0, 7), (0, 80), (0, 81), (0, 82), (40, 81), (80, 162)];
-    let mut cases: Vec<Case> = cuts.map(|(first, step)| take(&file, first, step)).into();
-    cases.extend(steps.map(|(first, step)| take(&file, first, step)));
-    cases.extend([take(&kinds, 100, 7), take(&kinds, 0, 163), take(&notified, 5, 97)]);
-    // Pieces of 80 and of 82 bytes end at every place of a record.
-    let sounds = [(2, 2, 64), (3, 5, 80), (6, 4, 82)];
-    cases.extend(sounds.map(|(seed, count, step)| take(&sound(seed, count).1, 13, step)));
-    // Amounts and sums of all places; every place of a message; as many assignments as may be.
-    cases.push(take(&wide(ALL_DIGITS), 30, 50));
-    cases.push(take(&closed(&claims(&[MOST - 5, 5])), 70, 40));
-    cases.push(take(&closed(&messages("01", "03", &[mixed(), every_place()])), 0, 4_096));
-    cases.push(take(&file_of("04", &keys(0, 500), 3), 1, 65_536));
-    cases
-}
-
-/// A fault in a record that a cut goes through: in each field of a 30, and of other records.
-fn faults_at_cuts() -> Vec<Case> {
-    // Position, text, and behind which position the cut goes.
-    let fields = [
-        (1, "XX", 1),
-        (3, "01", 3),
-        (5, "05", 5),
-        (7, "31", 7),
-        (9, "0000000", 12),
-        (16, "310425", 18),
-        (16, "021026", 20),
-        (22, "12345678901", 31),
-        (33, "000000000000800x0", 48),
-        (33, "00010000000000000", 40),
-        (74, "1", 60),
-        (80, "1", 79),
-        (81, "x", 80),
-    ];
-    let of_30 = |(from, text, cut): (usize, &str, usize)| {
-        take(&with(&whole(), 3, from, text), 2 * RECORD + cut, if cut % 2 == 0 { 0 } else { 81 })
-    };
-    let (kinds, notified) = (every_kind(), notified());
-    // A record too, before which the others stand.
-    let others = [
-        (&kinds, 1, 24, "1", 28),
-        (&kinds, 2, 35, "4", 30),
-        (&kinds, 6, 57, "1", 50),
-        (&kinds, 9, 46, "015 ", 47),
-        (&kinds, 16, 18, "0000001", 20),
-        (&kinds, 20, 17, "0011", 18),
-        (&kinds, 23, 41, "9", 33),
-        (&kinds, 24, 24, "5", 20),
-        (&notified, 12, 78, "N", 77),
-        (&notified, 8, 16, "0212", 17),
-    ];
-    let mut cases: Vec<Case> = fields.map(of_30).into();
-    cases.extend(others.map(|(file, record, from, text, cut)| {
-        take(&with(file, record, from, text), (record - 1) * RECORD + cut, 45)
-    }));
-    cases
-}
-
-/// Faults that other records decide, in pieces of some length: too many texts and assignments, a
-/// key that stood long before, sums past their limits.
-fn faults_over_pieces() -> Vec<Case> {
-    let mut repeated = keys(0, 400);
-    repeated[399] = repeated[0];
-    vec![
-        take(&closed(&messages("04", "03", &[vec![(0, 0); 43]])), 40, 81),
-        take(&file_of("01", &keys(0, 501), 3), 80, 4_096),
-        take(&file_of("01", &repeated, 3), 0, 4_096),
-        take(&closed(&transfers("04", &[9_999_999_999_999, 1])), 300, 81),
-        take(&closed(&claims(&[MOST - 5, 6])), 300, 82),
-        // Records 50 that do not balance, and nothing behind them: the end is too early.
-        take(&group(5, &[("16", 4)], &[]), 350, 0),
-    ]
-}
-
-/// What is told at the end: 2, then the kept fault, then 6; and on no day, and of nothing.
-fn ends_of_takings() -> Vec<Case> {
-    let file = whole();
-    let faulty = with(&file, 3, 33, "x");
-    let mut cases = vec![
-        take(&[&faulty[..], b"NY"].concat(), 400, 50),
-        take(&faulty[..485], 200, 0),
-        take(&[&faulty[..], &file[..81]].concat(), 486, 80),
-        take(&faulty[..405], 81, 81),
-        take(&with(&faulty, 5, 81, "x"), 81, 81),
-        take(&[&file[..], b"N"].concat(), 486, 0),
-        take(&[&file[..], &file[..81]].concat(), 486, 0),
-    ];
-    cases.extend([1, 80, 82].map(|length| take(&file[..length], 40, 41)));
-    cases.extend([81, 162, 243, 324, 405].map(|length| take(&file[..length], 50, 31)));
-    cases.extend([(0, 0), (100, 5)].map(|(first, step)| take(b"", first, step)));
-    let days = [(2025, 2, 31), (2025, 0, 0)];
-    cases.extend(days.map(|day| vectors::taking(day, file.clone(), 100, 100, 40)));
-    cases.push(vectors::taking((2025, 4, 31), vec![], 0, 0, 0));
-    cases
-}
-
-/// Bytes after the end, which change nothing: the answer is repeated, figures too.
-fn takings_after_the_end() -> Vec<Case> {
-    let (file, kinds) = (whole(), every_kind());
-    let after =
-        |input: &[u8], first, step, after| vectors::taking(DAY, input.to_vec(), first, step, after);
-    vec![
-        after(&[&file[..], &file].concat(), 486, 0, 486),
-        after(&[&file[..], b"x"].concat(), 50, 100, 1),
-        after(&[&kinds[..], &file].concat(), 50, 333, 486),
-        // What came too late would have made the file sound.
-        after(&file, 0, 0, 486),
-        after(&file, 100, 100, 1),
-        after(&file, 405, 0, 81),
-        after(&file, 81, 81, 240),
-        after(&file, 20, 20, 999_999),
-        // What came too late would have been 2 before the kept fault.
-        after(&[&with(&file, 3, 33, "x")[..], b"NY"].concat(), 300, 81, 2),
-    ]
-}
-
-fn takings() -> Vec<Case> {
-    [
-        sound_takings(),
-        faults_at_cuts(),
-        faults_over_pieces(),
-        ends_of_takings(),
-        takings_after_the_end(),
-    ]
-    .concat()
-}
-
 /// A name has four digits.
 const NAMES: usize = 10_000;
 
@@ -1077,7 +942,6 @@ fn main() -> io::Result<()> {
         ("make", makings()),
         ("check", wide_checkings()),
         ("close", wide_closings()),
-        ("take", takings()),
     ];
     println!("{kept} check vectors kept");
     let mut index = kept;

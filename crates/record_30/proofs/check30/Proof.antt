@@ -98,7 +98,7 @@ behind-number-requires c κs =
     let s = h.before.before in
     let a = s.args in
     let r = a.r.now in
-    (s.requires.0, own-service a.file [] r a.a (sym (h.head.ensures a.file []) ∙ n.before.enum_told.given.1), s.requires.1)
+    (s.requires, own-service a.file [] r a.a (sym (h.head.ensures a.file []) ∙ n.before.enum_told.given.1))
 
 returns-3 : tie.Need-returns-3
 returns-3 c = λ ks.

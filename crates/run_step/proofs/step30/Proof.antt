@@ -1,6 +1,12 @@
-use mathlib.Core.Path.{◌≡◌, ap}
-use mathlib.Core.List.{[]}
+use Prim.Native.Nat.{ℕ}
+use mathlib.Core.Path.{◌≡◌, refl, ap, ap₂, sym, ◌∙◌}
+use mathlib.Core.List.{List, []}
+use native.Mathlib.Omega.{arith}
+use Rattle.dates.specs.declared.Date.{Date}
+use Rattle.figures.specs.Totals.{◌⊕◌, one_transaction}
 use Rattle.figures.specs.declared.amounts.Amount.{Amount}
+use Rattle.figures.specs.declared.counts.TransactionNumber.{TransactionNumber}
+use Rattle.rules.specs.Growth.{paid_as}
 use Rattle.rules.specs.Payments.{amount_in}
 use Rattle.rules.specs.declared.Kind.TheVariants.{R30}
 use Rattle.run_step.proofs.Steps.{stop_at, next_at, holds_at}
@@ -29,9 +35,7 @@ paying c =
     pays a.st.file [] a.w a.st.assignment a.r.now (holds_at R30 a.w a.st [] a.r.now _ (p.check30.ensures []).finding q.enum_told.given.1)
 
 check30-requires : tie.Need-check30-requires
-check30-requires c κs =
-    let start = c.before.before.before in
-    (start.requires.0, record { own = start.requires.1.assignment.sum; whole = start.requires.1.file.sum })
+check30-requires c κs = search rules
 
 enum-known-finding : tie.Need-enum-known-finding
 enum-known-finding c = search rules

@@ -7,14 +7,14 @@ use Rattle.tool_expected.proofs.figure.Reads as reads
 use Rattle.tool_expected.proofs.figure.Lts as lts
 use Rattle.dates.proofs.ddmmyy_of.Reads as ddmmyy-of-reads
 
-cast-t9 : tie.Need-overflow-cast-t9
-cast-t9 c = search rules
-
 cast-t10 : tie.Need-overflow-cast-t10
 cast-t10 c = search rules
 
-add-t11 : tie.Need-overflow-add-t11
-add-t11 c = search rules
+cast-t11 : tie.Need-overflow-cast-t11
+cast-t11 c = search rules
+
+add-t12 : tie.Need-overflow-add-t12
+add-t12 c = search rules
 
 ddmmyy-of-requires : tie.Need-ddmmyy-of-requires
 ddmmyy-of-requires c κs = search rules
@@ -46,9 +46,9 @@ pub figure-spec : {M : Type 1} → statement M
 figure-spec =
     tie.close
     (tie.spec
-    cast-t9
     cast-t10
-    add-t11
+    cast-t11
+    add-t12
     ddmmyy-of-requires
     ddmmyy-of-requires-2
     returns

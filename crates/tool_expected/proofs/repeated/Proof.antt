@@ -12,15 +12,15 @@ use Rattle.tool_expected.proofs.next_number.Reads as next-number-reads
 code-for-requires : tie.Need-code-for-requires
 code-for-requires c κs = search rules
 
-cast-t9 : tie.Need-overflow-cast-t9
-cast-t9 c = search rules
+cast-t8 : tie.Need-overflow-cast-t8
+cast-t8 c = search rules
 
 returns : tie.Need-returns
 unfolding repeated_for
 returns c = simp (eq-eqb _ _ c.before.if1.true, c.code-for.ensures)
 
-cast-t10 : tie.Need-overflow-cast-t10
-cast-t10 c = search rules
+cast-t9 : tie.Need-overflow-cast-t9
+cast-t9 c = search rules
 
 returns-2 : tie.Need-returns-2
 unfolding repeated_for
@@ -39,8 +39,8 @@ returns-3 : tie.Need-returns-3
 unfolding repeated_for
 returns-3 c = simp (ne_eqb _ _ c.before.before.before.before.before.if1.false, ne_eqb _ _ c.before.before.before.before.if2.false, ← c.before.before.before.number_of_lem.ensures, eq-eqb _ _ c.before.before.if3.true) c.next-number.ensures
 
-cast-t13 : tie.Need-overflow-cast-t13
-cast-t13 c = search rules
+cast-t12 : tie.Need-overflow-cast-t12
+cast-t12 c = search rules
 
 returns-4 : tie.Need-returns-4
 unfolding repeated_for
@@ -51,13 +51,13 @@ repeated-spec =
     tie.close
     (tie.spec
     code-for-requires
-    cast-t9
+    cast-t8
     returns
-    cast-t10
+    cast-t9
     returns-2
     number-of-requires
     cast-next-number
     next-number-requires
     returns-3
-    cast-t13
+    cast-t12
     returns-4)
