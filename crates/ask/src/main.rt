@@ -1,5 +1,7 @@
 // Document 01's program: a line DDMMYY and up to 800 records on standard input, one line of answer.
 
+#![tactic(auto)]
+
 use field_digits::Digits;
 use libc::{STDIN_FILENO, STDOUT_FILENO};
 use limits::RECORD_BYTES;

@@ -1,5 +1,7 @@
 // Checking a file, of any bytes, on any process day.
 
+#![tactic(auto)]
+
 ghost use Rattle.std.specs.Prelude.{◌≡◌, length};
 ghost use Rattle.limits.specs.Limits.{most_assignments};
 ghost use Rattle.operations.specs.Promises.{CheckPromise};

@@ -1,5 +1,7 @@
 // Closing a draft, of any bytes, on any process day, into any output: judge first, then write.
 
+#![tactic(auto)]
+
 ghost use Rattle.operations.specs.Promises.{ClosePromise};
 
 use dates::{Opening, ProcessDay};

@@ -1,5 +1,7 @@
 // Weighing a draft, of any bytes, before anything is written: its refusal, or the figures of the file to be written.
 
+#![tactic(auto)]
+
 ghost use Rattle.std.specs.Prelude.{◌≡◌, ◌/◌, ◌≤◌, length};
 ghost use Rattle.choice.specs.Choice.{if◌then◌else◌};
 ghost use Rattle.limits.specs.Limits.{record_bytes};

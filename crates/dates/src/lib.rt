@@ -1,5 +1,7 @@
 // Dates of the years 2000 to 2099, and the window that a process day opens.
 
+#![tactic(auto)]
+
 ghost use Rattle.std.specs.Prelude.{◌≡◌, ◌||◌, eqb};
 ghost use Rattle.dates.specs.Dates.{days_in, is_date, day_of, day_told, read_day, ddmmyy, earlier, later};
 ghost use Rattle.dates.specs.Windows.{window_of, earliest, in_time};
@@ -7,17 +9,17 @@ ghost use Rattle.dates.specs.Windows.{window_of, earliest, in_time};
 use services::Service;
 
 // A date's number: year times 10000, month times 100, day. 0 stands for no date yet.
-#[derive(Drop)]
+#[derive(Clone, Copy)]
 pub struct Date(pub u32);
 
-#[derive(Drop)]
+#[derive(Clone, Copy)]
 pub enum Day {
     On(Date),
     NoDate,
 }
 
 // The day that the caller processes on, in full: 2025, 10, 1. It may be no date at all.
-#[derive(Drop)]
+#[derive(Clone, Copy)]
 pub struct ProcessDay {
     pub year: u64,
     pub month: u64,
@@ -25,14 +27,14 @@ pub struct ProcessDay {
 }
 
 // All that a rule asks of the process day.
-#[derive(Drop)]
+#[derive(Clone, Copy)]
 pub struct Window {
     pub latest: Date,
     pub earliest01: Date,
     pub earliest04: Date,
 }
 
-#[derive(Drop)]
+#[derive(Clone, Copy)]
 pub enum Opening {
     Open(Window),
     NoDay,

@@ -1,12 +1,14 @@
 // Accounts: eleven digits, the last of which follows from the ten before it.
 
+#![tactic(auto)]
+
 ghost use Rattle.std.specs.Prelude.{◌≡◌, ◌<◌, length};
 ghost use Rattle.field_accounts.specs.Accounts.{weights, right_digit, judged, account_of, is_right};
 ghost use Rattle.field_accounts.specs.OnTheWay.{weighed};
 
 use field_words::eleven_digits;
 
-#[derive(Drop)]
+#[derive(Clone, Copy)]
 pub enum Account {
     Right,
     // Another last digit is right: this one.

@@ -4,7 +4,7 @@ ghost use Rattle.std.specs.Prelude.{◌≡◌};
 ghost use Rattle.field_bytes.specs.Bytes.{every};
 ghost use Rattle.field_bytes.specs.Classes.{in_class};
 
-#[derive(Drop)]
+#[derive(Clone, Copy)]
 pub enum Class {
     Digit,
     Zero,

@@ -1,5 +1,7 @@
 // A field of digits as the number that it writes.
 
+#![tactic(auto)]
+
 ghost use Rattle.std.specs.Prelude.{◌≡◌, true, ◌≤◌, length, drop};
 ghost use Rattle.field_bytes.specs.Bytes.{every, is_digit};
 ghost use Rattle.field_digits.specs.Numbers.{value, number_of, paired};
@@ -10,14 +12,14 @@ use field_words::{
     all_digits, pairs_in, value_in, wide, word, word_of_last_seven, word_of_last_six, word_of_six,
 };
 
-#[derive(Drop)]
+#[derive(Clone, Copy)]
 pub enum Digits {
     Number(u64),
     NotDigits,
 }
 
 // Six digits two by two: three numbers side by side, of sixteen bits each.
-#[derive(Drop)]
+#[derive(Clone, Copy)]
 pub enum DigitPairs {
     Pairs(u64),
     NoPairs,

@@ -1,5 +1,7 @@
 // KIDs and references: one run of digits at an end of the field, blanks elsewhere.
 
+#![tactic(auto)]
+
 ghost use Rattle.std.specs.Prelude.{◌≡◌, ◌||◌, ◌<◌, length};
 ghost use Rattle.field_bytes.specs.Bytes.{every, is_blank};
 ghost use Rattle.field_references.specs.Kids.{at_right, at_left, is_kid, is_reference};
@@ -8,7 +10,7 @@ ghost use Rattle.field_references.specs.OnTheWay.{runs_on, joins, chain};
 use field_bytes::classes::{Class, in_class};
 
 // The end at which the digits stand.
-#[derive(Drop)]
+#[derive(Clone, Copy)]
 pub enum Side {
     Left,
     Right,

@@ -1,5 +1,7 @@
 // Bytes copied into lent memory, and short texts in wider fields.
 
+#![tactic(auto)]
+
 ghost use Rattle.std.specs.Prelude.{◌≡◌, ◌++◌, ◌≤◌, length, drop};
 ghost use Rattle.field_texts.specs.Texts.{blanks, to_left, to_right};
 

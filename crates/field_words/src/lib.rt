@@ -1,5 +1,7 @@
 // Digits eight at a time: a word is eight bytes as one number, the first byte lowest.
 
+#![tactic(auto)]
+
 ghost use Rattle.std.specs.Prelude.{◌≡◌, true, ◌∷◌, ◌<◌, ◌≤◌, length, drop};
 ghost use Rattle.std.specs.Int.Bits.{bit_and};
 ghost use Rattle.field_bytes.specs.Bytes.{every, is_digit, is_zero};

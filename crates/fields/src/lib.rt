@@ -1,6 +1,8 @@
 // The fields of a record by their positions, counted from 1 as document 01 counts them, and numbers into fields. What a field's bytes may be is in the crates below;
 // the definitions that other crates name are passed on here.
 
+#![tactic(auto)]
+
 ghost use Rattle.std.specs.Prelude.{◌≡◌, ◌||◌, ◌+◌, ◌≤◌, length};
 ghost use Rattle.limits.specs.Limits.{record_bytes};
 ghost use Rattle.field_bytes.specs.Bytes.{every, is_zero, is_blank, same, part, Inside};

@@ -3,7 +3,7 @@
 ghost use Rattle.std.specs.Prelude.{◌≡◌, ◌+◌};
 ghost use Rattle.figures.specs.Figures.{plus, within, Fits};
 
-#[derive(Drop)]
+#[derive(Clone, Copy)]
 pub struct Amount(pub u64);
 
 impl Amount {

@@ -4,11 +4,11 @@ ghost use Rattle.std.specs.Prelude.{◌≡◌, ◌+◌, eqb};
 ghost use Rattle.figures.specs.Figures.{follows, Fits};
 ghost use Rattle.figures.specs.Totals.{count_plus};
 
-#[derive(Drop)]
+#[derive(Clone, Copy)]
 pub struct Count(pub u32);
 
 // The number of a transaction; 0 where there is none yet.
-#[derive(Drop)]
+#[derive(Clone, Copy)]
 pub struct TransactionNumber(pub u32);
 
 impl Count {

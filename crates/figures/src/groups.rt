@@ -6,7 +6,7 @@ ghost use Rattle.figures.specs.Groups.{empty_group, with_specified, with_credite
 
 use super::amounts::Amount;
 
-#[derive(Drop)]
+#[derive(Clone, Copy)]
 pub struct Group {
     pub specified: Amount,
     pub credited: Amount,

@@ -1,5 +1,7 @@
 // Amounts, counts and transaction numbers, which are never mixed, and the totals that they make up.
 
+#![tactic(auto)]
+
 pub mod amounts;
 pub mod counts;
 pub mod groups;

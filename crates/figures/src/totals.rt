@@ -8,7 +8,7 @@ use super::amounts::Amount;
 use super::counts::Count;
 use dates::Date;
 
-#[derive(Drop)]
+#[derive(Clone, Copy)]
 pub struct Totals {
     pub assignments: Count,
     pub transactions: Count,
@@ -17,7 +17,7 @@ pub struct Totals {
     pub first: Date,
 }
 
-#[derive(Drop)]
+#[derive(Clone, Copy)]
 pub struct AssignmentTotals {
     pub totals: Totals,
     pub last: Date,

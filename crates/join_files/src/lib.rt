@@ -1,5 +1,7 @@
 // Joining two files, of any bytes, on any process day, into any output: judge first, then write.
 
+#![tactic(auto)]
+
 ghost use Rattle.std.specs.Prelude.{◌≡◌, length, take};
 ghost use Rattle.limits.specs.Limits.{most_assignments};
 ghost use Rattle.operations.specs.Joining.{weigh_second, weigh_join};

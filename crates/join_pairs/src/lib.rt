@@ -1,5 +1,7 @@
 // Two accepted files side by side: what stands against joining them, and their figures in one.
 
+#![tactic(auto)]
+
 ghost use Rattle.std.specs.Prelude.{◌≡◌, ◌≤◌, length, take};
 ghost use Rattle.fields.specs.Bytes.{same};
 ghost use Rattle.limits.specs.Limits.{record_bytes};

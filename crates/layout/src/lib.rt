@@ -1,12 +1,14 @@
 // How a record's rules are written: rows, tables of rows and the first fault. The code has what a check finds.
 
+#![tactic(auto)]
+
 ghost use Rattle.std.specs.Prelude.{◌≡◌};
 ghost use Rattle.layout.specs.Findings.{or_else, demanded, account_found};
 
 use field_accounts::Account;
 
 // No fault, or a refusal number and a field.
-#[derive(Drop)]
+#[derive(Clone, Copy)]
 pub enum Finding {
     Sound,
     Fault(u8, u8),

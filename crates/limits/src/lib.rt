@@ -1,5 +1,7 @@
 // Document 01's limits as the code names them. The definitions name the same in specs/.
 
+#![tactic(auto)]
+
 // A record: 80 bytes of text and a line feed.
 pub const RECORD_BYTES: usize = 81;
 

@@ -1,5 +1,7 @@
 // Lines of values as a spreadsheet exports them, and the draft that they make.
 
+#![tactic(auto)]
+
 ghost use Rattle.std.specs.Prelude.{◌≡◌, length};
 ghost use Rattle.make_lines.specs.Lines.{lines_of, bearing, borne};
 ghost use Rattle.make_lines.specs.Draft.{line_taken, taken_bytes, LinesPromise, enough, DraftPromise};
@@ -16,14 +18,14 @@ pub mod records;
 pub mod slots;
 
 // What making a draft answers: how many records it has, or a refusal that bears the line in the place of a record.
-#[derive(Drop)]
+#[derive(Clone, Copy)]
 pub enum Drafting {
     Drafted(u64),
     NotDrafted(Refusal),
 }
 
 // What a line adds: none or one record; or the number and the field of its refusal.
-#[derive(Drop)]
+#[derive(Clone, Copy)]
 pub enum Taken {
     Added(u64),
     Stopped(u8, u8),

@@ -10,7 +10,7 @@ use layout::Finding;
 use rules::Kind;
 
 // A value of a line: a number or a text, and its field.
-#[derive(Drop)]
+#[derive(Clone, Copy)]
 pub enum Slot {
     Numeral(u8),
     Words(u8),

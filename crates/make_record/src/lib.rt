@@ -1,5 +1,7 @@
 // Records from the till: eight operations that make a record from values into a lent buffer.
 
+#![tactic(auto)]
+
 ghost use Rattle.std.specs.Prelude.{◌≡◌, length};
 ghost use Rattle.limits.specs.Limits.{record_bytes};
 ghost use Rattle.operations.specs.Making.{not_made, made10, made20, made30, made31, made40, made41, made49, made50};

@@ -1,6 +1,8 @@
 // The own rules of a record that was made: the rows of its table that look at the record alone, each by the code that checking has for it.
 // Fields 7, 9 and 10 of a 30 and sound texts of a 31 are looked at here: the compiler merges the functions that checking has for them into its loop only while they have one caller.
 
+#![tactic(auto)]
+
 ghost use Rattle.std.specs.Prelude.{◌≡◌, true, ◌&&◌, List, ℕ, eqb, length};
 ghost use Rattle.limits.specs.Limits.{record_bytes};
 ghost use Rattle.fields.specs.Bytes.{part};

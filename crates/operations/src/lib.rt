@@ -1,5 +1,7 @@
 // What the operations that write answer, and what they write: the definitions stand in specs/, and the answers of parting and making here.
 
+#![tactic(auto)]
+
 ghost use Rattle.std.specs.Prelude.{◌*◌, ◌≤◌, ◌≡◌, length, take};
 ghost use Rattle.limits.specs.Limits.{record_bytes};
 ghost use Rattle.operations.specs.Parting.{no_boundary};
@@ -9,7 +11,7 @@ use limits::RECORD_BYTES;
 use rules::Refusal;
 
 // What parting answers: how many bytes each part has; how many assignments the file has, if it has no such boundary; or another refusal.
-#[derive(Drop)]
+#[derive(Clone, Copy)]
 pub enum Parting {
     Parted(usize, usize),
     NoBoundary(Count),
@@ -17,7 +19,7 @@ pub enum Parting {
 }
 
 // What making a record answers.
-#[derive(Drop)]
+#[derive(Clone, Copy)]
 pub enum Making {
     Made,
     NotMade(Refusal),

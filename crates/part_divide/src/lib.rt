@@ -1,5 +1,7 @@
 // Dividing the assignments of a sound file in two, each part a file of its own with the record 10 before it and an 89 after it.
 
+#![tactic(auto)]
+
 ghost use Rattle.std.specs.Prelude.{◌≡◌, length};
 ghost use Rattle.figures.specs.Totals.{◌⊕◌, one_record};
 ghost use Rattle.limits.specs.Limits.{most_records};

@@ -1,5 +1,7 @@
 // Parting a file, of any bytes, on any process day, into any two outputs: judge first, then write.
 
+#![tactic(auto)]
+
 ghost use Rattle.std.specs.Prelude.{◌≡◌, ◌&&◌, leb, ltb};
 ghost use Rattle.operations.specs.Promises.{PartPromise};
 

@@ -1,5 +1,7 @@
 // The office's tool over whole files: pay check, make, close, join and part.
 
+#![tactic(auto)]
+
 ghost use Rattle.std.specs.Prelude.{◌*◌, ◌≤◌, length};
 ghost use Rattle.limits.specs.Limits.{record_bytes};
 ghost use Rattle.operations.specs.Closing.{file_bytes};

@@ -1,5 +1,7 @@
 // The operations for programs in C or Rust: a slice is a pointer and a length, and the answer goes into sixteen lent numbers. include/pay.h declares them.
 
+#![tactic(auto)]
+
 pub mod make;
 
 ghost use Rattle.std.specs.Prelude.{◌≡◌};

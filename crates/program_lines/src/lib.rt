@@ -1,5 +1,7 @@
 // What the programs read and print: a process day from six digits, and an answer as one line.
 
+#![tactic(auto)]
+
 ghost use Rattle.std.specs.Prelude.{◌≡◌};
 ghost use Rattle.program_lines.specs.Days.{day_written};
 ghost use Rattle.program_lines.specs.Answers.{word_for};

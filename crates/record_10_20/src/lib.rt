@@ -1,5 +1,7 @@
 // The records that start something: 10 a file, 20 an assignment.
 
+#![tactic(auto)]
+
 ghost use Rattle.std.specs.Prelude.{◌≡◌, List, true, ℕ, ◌+◌, ◌*◌, ◌<◌, ◌≤◌, length, take};
 ghost use Rattle.fields.specs.Bytes.{every, is_digit, part};
 ghost use Rattle.layout.specs.Rows.{first_fault, member};
@@ -15,7 +17,7 @@ use limits::MOST_ASSIGNMENTS;
 use rules::Assignment;
 
 // What a record 20 is found to be, and its key where it is sound.
-#[derive(Drop)]
+#[derive(Clone, Copy)]
 pub struct Keyed {
     pub finding: Finding,
     pub key: u64,

@@ -1,5 +1,7 @@
 // Record 30, the payment: each stage answers what its fields are found to be, and the whole the first fault.
 
+#![tactic(auto)]
+
 ghost use Rattle.std.specs.Prelude.{◌≡◌, List, ℕ, length};
 ghost use Rattle.limits.specs.Limits.{record_bytes};
 ghost use Rattle.layout.specs.Rows.{first_fault};
@@ -16,7 +18,7 @@ use layout::Finding;
 use rules::Assignment;
 
 // What a record 30 is found to be, and what it brings where it is sound.
-#[derive(Drop)]
+#[derive(Clone, Copy)]
 pub struct Paid {
     pub finding: Finding,
     pub number: TransactionNumber,

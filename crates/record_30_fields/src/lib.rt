@@ -1,5 +1,7 @@
 // Single fields of a record 30, the payment: its type, its payee or payer, its KID.
 
+#![tactic(auto)]
+
 ghost use Rattle.std.specs.Prelude.{◌≡◌, ◌&&◌, List, ℕ, eqb, length};
 ghost use Rattle.limits.specs.Limits.{record_bytes};
 ghost use Rattle.fields.specs.Bytes.{part};

@@ -1,5 +1,7 @@
 // Fields of a record 30, the payment, that bring a value: its number, its date, its amount.
 
+#![tactic(auto)]
+
 ghost use Rattle.std.specs.Prelude.{◌≡◌, ℕ, ◌<◌, length};
 ghost use Rattle.limits.specs.Limits.{record_bytes};
 ghost use Rattle.dates.specs.Dates.{day_told, read_day};
@@ -17,19 +19,19 @@ use limits::{MOST_OF_ALL, MOST_OF_SERVICE_04, MOST_OF_TYPE_04};
 use rules::Assignment;
 use services::Service;
 
-#[derive(Drop)]
+#[derive(Clone, Copy)]
 pub struct Numbered {
     pub finding: Finding,
     pub number: TransactionNumber,
 }
 
-#[derive(Drop)]
+#[derive(Clone, Copy)]
 pub struct Dated {
     pub finding: Finding,
     pub date: Date,
 }
 
-#[derive(Drop)]
+#[derive(Clone, Copy)]
 pub struct Priced {
     pub finding: Finding,
     pub amount: Amount,

@@ -1,5 +1,7 @@
 // Records after a record 30: its second half (31) and the payee's address (40).
 
+#![tactic(auto)]
+
 ghost use Rattle.std.specs.Prelude.{◌≡◌, true, List, ◌++◌, ℕ, length};
 ghost use Rattle.limits.specs.Limits.{record_bytes};
 ghost use Rattle.fields.specs.Bytes.{every, is_text, part, Inside};
@@ -17,7 +19,7 @@ use rules::Assignment;
 use services::Service;
 
 // What such a record has of its own: the texts of a 31, the address of a 40.
-#[derive(Drop)]
+#[derive(Clone, Copy)]
 enum Detail {
     Texts,
     Address,

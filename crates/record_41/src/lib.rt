@@ -1,5 +1,7 @@
 // Record 41: the second half of the payee's address.
 
+#![tactic(auto)]
+
 ghost use Rattle.std.specs.Prelude.{◌≡◌, true, List, ℕ, length};
 ghost use Rattle.limits.specs.Limits.{record_bytes};
 ghost use Rattle.fields.specs.Bytes.{part};

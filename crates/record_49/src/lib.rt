@@ -1,5 +1,7 @@
 // Record 49: a piece of the message to the payee, and the place that it takes, if any.
 
+#![tactic(auto)]
+
 ghost use Rattle.std.specs.Prelude.{◌≡◌, List, ℕ, ◌+◌, ◌<◌, ◌≤◌, length};
 ghost use Rattle.limits.specs.Limits.{record_bytes, most_in_message};
 ghost use Rattle.fields.specs.Bytes.{part, Inside};
@@ -15,14 +17,14 @@ use limits::MOST_IN_MESSAGE;
 use rules::{Assignment, Places};
 
 // A number up to its bound, or none.
-#[derive(Drop)]
+#[derive(Clone, Copy)]
 enum Bounded {
     InBounds(u64),
     OutOfBounds,
 }
 
 // What a record 49 is found to be, and the places after it where it is sound.
-#[derive(Drop)]
+#[derive(Clone, Copy)]
 pub struct Placed {
     pub finding: Finding,
     pub places: Places,

@@ -1,5 +1,7 @@
 // Record 50: a sub-specification of the payment, which its sum has room for.
 
+#![tactic(auto)]
+
 ghost use Rattle.std.specs.Prelude.{◌≡◌, true, List, ◌++◌, ℕ, eqb, length};
 ghost use Rattle.limits.specs.Limits.{record_bytes};
 ghost use Rattle.choice.specs.Choice.{if◌then◌else◌};
@@ -19,7 +21,7 @@ use limits::MOST_OF_ALL;
 use rules::Assignment;
 
 // What a record 50 is found to be, and its amount where it is sound.
-#[derive(Drop)]
+#[derive(Clone, Copy)]
 pub struct Specified {
     pub finding: Finding,
     pub amount: Amount,

@@ -1,5 +1,7 @@
 // The records that end something: 88 an assignment, 89 a file. Their figures have to be those of the records before them.
 
+#![tactic(auto)]
+
 ghost use Rattle.std.specs.Prelude.{◌≡◌, List, ℕ, ◌+◌, ◌<◌, ◌≤◌, length};
 ghost use Rattle.limits.specs.Limits.{record_bytes};
 ghost use Rattle.fields.specs.Bytes.{Inside};

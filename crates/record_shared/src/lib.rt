@@ -1,5 +1,7 @@
 // Fields that several record types share: the head outside assignments, where a record belongs, and what it repeats of its record 30.
 
+#![tactic(auto)]
+
 ghost use Rattle.std.specs.Prelude.{◌≡◌, true, List, ℕ, ◌<◌, length};
 ghost use Rattle.limits.specs.Limits.{record_bytes};
 ghost use Rattle.figures.specs.Figures.{transaction_number};

@@ -1,5 +1,7 @@
 // What document 01's rules speak of: record types, the assignment at hand, the state of a run and its answer. The rules themselves stand in specs/.
 
+#![tactic(auto)]
+
 ghost use Rattle.std.specs.Prelude.{◌≡◌, ◌*◌, ◌+◌, ◌≤◌, length};
 ghost use Rattle.limits.specs.Limits.{record_bytes};
 ghost use Rattle.rules.specs.Messages.{no_places};
@@ -14,7 +16,7 @@ use limits::RECORD_BYTES;
 use services::Service;
 
 // Record types. Other is none of the ten; it also stands for no record yet.
-#[derive(Drop)]
+#[derive(Clone, Copy)]
 pub enum Kind {
     R10,
     R20,
@@ -30,14 +32,14 @@ pub enum Kind {
 }
 
 // A file has its end records, a draft has none.
-#[derive(Drop)]
+#[derive(Clone, Copy)]
 pub enum Mode {
     File,
     Draft,
 }
 
 // What the records 49 of a transaction have taken up of its message.
-#[derive(Drop)]
+#[derive(Clone, Copy)]
 pub struct Places {
     // the places taken: bit line times two plus column
     pub mask: u64,
@@ -58,7 +60,7 @@ impl Places {
 }
 
 // The assignment at hand, with its last record and its last transaction.
-#[derive(Drop)]
+#[derive(Clone, Copy)]
 pub struct Assignment {
     pub last: Kind,
     pub service: Service,
@@ -72,20 +74,20 @@ pub struct Assignment {
     pub places: Places,
 }
 
-#[derive(Drop)]
+#[derive(Clone, Copy)]
 pub struct State {
     pub file: Totals,
     pub assignment: Assignment,
 }
 
-#[derive(Drop)]
+#[derive(Clone, Copy)]
 pub enum Step {
     Next(State),
     Stop(u8, u8),
 }
 
 // A refusal: document 01's number, which of two files (0 outside joining), the record from 1, the field.
-#[derive(Drop)]
+#[derive(Clone, Copy)]
 pub struct Refusal {
     pub number: u8,
     pub operand: u8,
@@ -126,7 +128,7 @@ impl Refusal {
     }
 }
 
-#[derive(Drop)]
+#[derive(Clone, Copy)]
 pub enum Verdict {
     Accepted(Totals),
     Refused(Refusal),

@@ -1,5 +1,7 @@
 // The figures of assignments in lent slots, five numbers for each: put there by the run, and read again, those of one and those of several together.
 
+#![tactic(auto)]
+
 ghost use Rattle.std.specs.Prelude.{◌≡◌, ◌-◌, ◌≤◌};
 ghost use Rattle.limits.specs.Limits.{most_assignments};
 ghost use Rattle.run_figures.specs.Slots.{with_figures, entry, summed, Legible, Summable};

@@ -1,5 +1,7 @@
 // What a sound record makes of the assignment at hand.
 
+#![tactic(auto)]
+
 ghost use Rattle.std.specs.Prelude.{◌≡◌};
 ghost use Rattle.limits.specs.Limits.{most_records};
 ghost use Rattle.figures.specs.Totals.{one_record, one_transaction};

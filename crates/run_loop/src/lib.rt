@@ -1,5 +1,7 @@
 // The records of a file or a draft in turn: the run over all of them.
 
+#![tactic(auto)]
+
 ghost use Rattle.std.specs.Prelude.{◌≡◌, ◌/◌, ◌≤◌, length};
 ghost use Rattle.limits.specs.Limits.{record_bytes, most_records, most_assignments};
 ghost use Rattle.rules.specs.Growth.{start};

@@ -1,5 +1,7 @@
 // What may follow: the record type decides, with choices on the record before, the service and the transaction type.
 
+#![tactic(auto)]
+
 ghost use Rattle.std.specs.Prelude.{◌≡◌, eqb, length};
 ghost use Rattle.limits.specs.Limits.{record_bytes};
 ghost use Rattle.rules.specs.Codes.{kind_of, kind_for, number_of_kind};

@@ -1,5 +1,7 @@
 // One record after the state: what its check found, the state after it, and what it adds to the keys and the figures.
 
+#![tactic(auto)]
+
 ghost use Rattle.std.specs.Prelude.{◌≡◌, List, ℕ, length};
 ghost use Rattle.limits.specs.Limits.{record_bytes, most_records};
 ghost use Rattle.run_growth.specs.Bounds.{Small};

@@ -1,10 +1,12 @@
 // The two services and their codes.
 
+#![tactic(auto)]
+
 ghost use Rattle.std.specs.Prelude.{◌≡◌};
 ghost use Rattle.services.specs.Services.{code_for, service_for};
 
 // Service 01 draws charges, service 04 pays out.
-#[derive(Drop)]
+#[derive(Clone, Copy)]
 pub enum Service {
     Autogiro,
     Remittance,

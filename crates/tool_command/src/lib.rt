@@ -1,5 +1,7 @@
 // What the command line asks: the command, the process day, the number of assignments.
 
+#![tactic(auto)]
+
 ghost use Rattle.std.specs.Prelude.{◌≡◌};
 ghost use Rattle.fields.specs.Bytes.{same};
 ghost use Rattle.tool_command.specs.CommandLine.{command_from, words_of, no_day, day_from, number_from};
@@ -7,7 +9,7 @@ ghost use Rattle.tool_command.specs.CommandLine.{command_from, words_of, no_day,
 use dates::ProcessDay;
 use field_digits::Digits;
 
-#[derive(Drop)]
+#[derive(Clone, Copy)]
 pub enum Command {
     Check,
     Make,

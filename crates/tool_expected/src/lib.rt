@@ -1,5 +1,7 @@
 // What a field must have by the records before it: what it repeats, the next number, the figures of an end record.
 
+#![tactic(auto)]
+
 ghost use Rattle.std.specs.Prelude.{◌≡◌};
 ghost use Rattle.tool_expected.specs.Expected.{next_number, repeated_for, figure_in, figure_for};
 

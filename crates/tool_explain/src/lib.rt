@@ -1,5 +1,7 @@
 // What people read after a refusal: the number in words, where it stands, and the record with its field underlined.
 
+#![tactic(auto)]
+
 pub mod answers;
 pub mod remedies;
 

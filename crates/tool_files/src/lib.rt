@@ -1,5 +1,7 @@
 // Files by name: an input read whole, an output that takes its name only when it is whole.
 
+#![tactic(auto)]
+
 use tool_phrases::say;
 
 // What the system says of a call that failed.

@@ -1,12 +1,14 @@
 // The fixed value of each field of each record type, and what a field may be told to have.
 
+#![tactic(auto)]
+
 ghost use Rattle.std.specs.Prelude.{◌≡◌};
 ghost use Rattle.tool_fixed.specs.Fixed.{types_of, message_fields, fixed_fields, fixed_for};
 
 use rules::Kind;
 
 // Values that a field chooses from.
-#[derive(Drop)]
+#[derive(Clone, Copy)]
 pub enum Choice {
     Services,
     ClaimTypes,
@@ -16,7 +18,7 @@ pub enum Choice {
     Columns,
 }
 
-#[derive(Drop)]
+#[derive(Clone, Copy)]
 pub enum Remedy {
     // the rules do not know it
     Unknown,

@@ -1,5 +1,7 @@
 // Names of files: a new one beside an output, and an output's folder.
 
+#![tactic(auto)]
+
 ghost use Rattle.std.specs.Prelude.{◌≡◌, true, ◌+◌, ◌≤◌, ◌<◌, eqb, length, take};
 ghost use Rattle.choice.specs.Choice.{if◌then◌else◌};
 ghost use Rattle.fields.specs.Bytes.{every, is_digit, text};

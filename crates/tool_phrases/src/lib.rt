@@ -1,5 +1,7 @@
 // The tool's phrases: what a refusal's number means, what a field is called, and how the tool is used.
 
+#![tactic(auto)]
+
 pub mod help;
 
 use libc::STDOUT_FILENO;

@@ -1,12 +1,14 @@
 // Where the fields of a record stand, positions counted from 1.
 
+#![tactic(auto)]
+
 ghost use Rattle.std.specs.Prelude.{◌≡◌};
 ghost use Rattle.tool_positions.specs.Positions.{ends_of, message_ends, nowhere, positions_of};
 
 use field_words::wide;
 use rules::Kind;
 
-#[derive(Drop)]
+#[derive(Clone, Copy)]
 pub struct Positions {
     pub from: u64,
     pub to: u64,

@@ -1,5 +1,7 @@
 // What would be right in a refused field, where the rules know it, and which record types may stand next.
 
+#![tactic(auto)]
+
 ghost use Rattle.std.specs.Prelude.{◌≡◌, length};
 ghost use Rattle.limits.specs.Limits.{record_bytes};
 ghost use Rattle.figures.specs.Totals.{none};
@@ -17,7 +19,7 @@ use tool_fixed::Remedy;
 use tool_walk::Seen;
 
 // The record types that may stand next.
-#[derive(Drop)]
+#[derive(Clone, Copy)]
 pub struct NextTypes {
     pub r10: bool,
     pub r20: bool,

@@ -1,5 +1,7 @@
 // Lines of values as the tool tells of them: how many records they made, or what is wrong with a line, with the value underlined.
 
+#![tactic(auto)]
+
 use field_accounts::Account;
 use limits::RECORD_BYTES;
 use make_lines::lines::{line_at, number_at, value_at, value_start};

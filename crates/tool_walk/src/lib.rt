@@ -1,5 +1,7 @@
 // What is seen in the records before a refused one: the last record, the assignment, the transaction, and the figures.
 
+#![tactic(auto)]
+
 ghost use Rattle.std.specs.Prelude.{◌≡◌, true, length};
 ghost use Rattle.dates.specs.Dates.{read_day};
 ghost use Rattle.limits.specs.Limits.{record_bytes};
@@ -20,7 +22,7 @@ use services::Service;
 // The last transaction number: it has seven digits.
 pub const LAST_NUMBER: u64 = 9_999_999;
 
-#[derive(Drop)]
+#[derive(Clone, Copy)]
 pub struct Seen {
     pub last: Kind,
     pub service: Service,

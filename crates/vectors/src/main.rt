@@ -1,5 +1,7 @@
 // Outside vectors: numbered files, each a line that says what is asked and then the input; one line of answer for each.
 
+#![tactic(auto)]
+
 ghost use Rattle.std.specs.Prelude.{◌+◌, ◌≤◌, ◌<◌, length};
 
 use dates::ProcessDay;

@@ -1,5 +1,7 @@
 // The fields of a record, each put in its places of a lent one.
 
+#![tactic(auto)]
+
 ghost use Rattle.std.specs.Prelude.{◌≡◌, [], ◌∷◌, ◌++◌, ◌+◌, ◌≤◌, length, take, drop};
 ghost use Rattle.field_texts.specs.Texts.{to_left, to_right};
 ghost use Rattle.fields.specs.Numbers.{written};

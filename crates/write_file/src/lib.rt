@@ -1,5 +1,7 @@
 // Writing into lent memory: end records made from their figures, and files of parts that are there.
 
+#![tactic(auto)]
+
 ghost use Rattle.std.specs.Prelude.{◌≡◌, ◌++◌, ◌+◌, ◌≤◌, length, drop};
 ghost use Rattle.limits.specs.Limits.{record_bytes};
 ghost use Rattle.operations.specs.Ends.{end_record, end89};
