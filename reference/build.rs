@@ -65,7 +65,7 @@ fn offered(archive: &Path) -> Result<Vec<String>, &'static str> {
 
 /// Where reference/archive puts what it makes.
 fn usual(root: &Path) -> PathBuf {
-    root.join("target/staticlib").join(told("CARGO_CFG_TARGET_ARCH")).join("libpay_c.a")
+    root.join("crates/pay_c/out/libpay_c.a")
 }
 
 /// The names of the declared operations.

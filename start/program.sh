@@ -1,6 +1,7 @@
-# What the starters pay and ask share, to be sourced with the project's folder in `root`: `ready PROGRAM` builds a program with its proofs where that is due, `start FILE WORDS..` runs one.
+# What the starters pay and ask share, to be sourced with the project's folder in `root`: `ready PROGRAM` builds a program with its proofs where that is due, `start PROGRAM WORDS..` runs one.
 # A build tells on standard error how far it is. Interrupted, it leaves no prover behind, and the next one goes on from there, since rt proves no crate twice. One build at a time: the others wait.
-# In target/: PROGRAM-built is as old as the start of the last build that ended well, PROGRAM-begun as that of the present one; building is the lock, said is what rt said.
+# The program is crates/PROGRAM/out/PROGRAM, as rt makes it. In target/: PROGRAM-built is as old as the start of the last build that ended well (or of a gate that passed: .ci/run),
+# PROGRAM-begun as that of the present one; building is the lock, said is what rt said.
 : "${root:?}"
 
 trouble() { # SENTENCE
@@ -12,24 +13,19 @@ say() { echo "$program: $1" >&2; }
 
 kit() { command -v rt >/dev/null || trouble 'there is no command rt; it comes with the Rattle kit, whose folder bin has to be in PATH'; }
 
-# the program is as new as all that it is made of
+# the program is as new as all that it is made of; what rt keeps lies in out/, whose coming and going the crate's own folder shows, and nothing else does
 fresh() { # PROGRAM
-    [ -x "$root/target/bin/$1" ] && [ -f "$root/target/$1-built" ] && [ -z "$(find "$root/crates" "$root/crates.txt" -newer "$root/target/$1-built" | head -n 1)" ]
+    [ -x "$root/crates/$1/out/$1" ] && [ -f "$root/target/$1-built" ] && [ -z "$(cd "$root" && find crates crates.txt -name out -prune -o \( -path 'crates/*/*' -o -name crates.txt \) -newer "target/$1-built" -print | head -n 1)" ]
 }
 
-# programs are for x86-64; elsewhere the kit's own emulator runs them, by its own loader
-start() { # FILE WORDS..
-    case $(uname -m) in
-        x86_64) "$@" ;;
-        *)
-            kit
-            tools=$(dirname "$(dirname "$(rt doc)")")/on/$(uname -m)/toolchain
-            "$tools/bin/qemu-x86_64" -s 67108864 "$tools/lib/ld-linux-x86-64.so.2" --library-path "$tools/lib" "$@"
-            ;;
-    esac
+start() { # PROGRAM WORDS..
+    file=$root/crates/$1/out/$1
+    shift
+    "$file" "$@"
 }
 
 ready() { # PROGRAM
+    [ "$(uname -m)" = x86_64 ] || trouble 'the Rattle kit has programs for x86-64 alone, and this machine is another'
     if fresh "$1"; then return; fi
     program=$1 target=$root/target
     lock=$target/building log=$target/said me=$$.$(began $$)
@@ -54,19 +50,18 @@ build() {
     say 'the program is built with its proofs; the first time takes some minutes'
     rm -f "$target/$program-built"
     if ! { touch "$target/$program-begun" && mkdir -m 711 "$room" && : >"$log"; }; then give_up; fi
-    # rt passes over a program that it has proved, even where its file is gone
-    [ -x "$target/bin/$program" ] || rm -f "$target/stamp/$program"
-    # Ctrl-C is for the starter, which then ends all of them; what they keep beside the tree, some hundred megabytes each, goes with their folder
-    (trap '' INT QUIT && cd "$root" && exec env TMPDIR="$room" rt check "$program") >"$log" 2>&1 </dev/null &
+    # rt run also runs what it built: no matter how that ends, here it has no input and asks for help at most.
+    # Ctrl-C is for the starter, which then ends all of them; what they keep beside the tree goes with their folder
+    # shellcheck disable=SC3045
+    (trap '' INT QUIT && ulimit -c 0 && cd "$root/crates/$program" && exec env TMPDIR="$room" rt run -- help) >"$log" 2>&1 </dev/null &
     prover=$!
     watch >/dev/null &
     watcher=$!
     wait "$prover"
-    ended=$?
     kill -KILL "$watcher" 2>/dev/null
     wait "$watcher" 2>/dev/null
     if [ -t 2 ]; then wipe; else tell; fi
-    if [ "$ended" != 0 ]; then
+    if ! { built && [ -x "$root/crates/$program/out/$program" ]; }; then
         failure
         give_up
     fi
@@ -78,9 +73,12 @@ give_up() {
     trouble 'the program could not be built'
 }
 
-# the last lines up to the first crate that is not proved: those behind it only follow from it
+# rt runs what it has built, and nothing else
+built() { awk -v line="rt: running out/$program;" 'index($0, line) == 1 { found = 1 } END { exit !found }' "$log"; }
+
+# the last lines, but for those that only count what was loaded: rt ends with the first crate that is not proved
 failure() {
-    awk '{ line[NR] = $0 } /^rt: (.* )?(NOT PROVED|FAILED)/ { exit } END { for (i = NR > 20 ? NR - 19 : 1; i <= NR; i++) print line[i] }' "$log" >&2
+    awk '/^(logic |statements |library |crate |axioms |only=|rt: chose )/ { next } { line[++n] = $0 } END { for (i = n > 20 ? n - 19 : 1; i <= n; i++) print line[i] }' "$log" >&2
     say 'this is what failed; put it right and start again (target/said has it all)'
 }
 
@@ -114,7 +112,8 @@ leave() {
 
 # ---- how far it is
 
-# each crate that the program stands on, and its weight: what every crate takes, and its code's bytes times the crates that it stands on. Time goes by these, hardly by the length of proofs
+# each crate that the program stands on, in the order that rt proves them in, and its weight: what every crate takes, and its code's bytes times the crates that it stands on.
+# Time goes by these, hardly by the length of proofs
 weigh() {
     cd "$root" && find crates -path 'crates/*/src/*' -type f -exec wc -c {} + | awk -v program="$program" '
         function under(top, crate,    names, n, i, sum) {
@@ -125,24 +124,29 @@ weigh() {
             for (i = 1; i <= n; i++) if (names[i] in named) sum += under(top, names[i])
             return sum
         }
+        function tell(crate,    names, n, i) {
+            if (crate in is_told) return
+            is_told[crate] = 1
+            n = split(named[crate], names, " ")
+            for (i = 1; i <= n; i++) if (names[i] in named) tell(names[i])
+            print crate, 30000 + code[crate] * under(crate, crate)
+        }
         NR == FNR { if (split($2, path, "/") > 1) code[path[2]] += $1; next }
         { sub(/#.*/, "") }
-        i = index($0, ":") { named[substr($0, 1, i - 1)] = substr($0, i + 1) }
-        END {
-            under("", program)
-            for (crate in named) if (("", crate) in counted) print crate, 30000 + code[crate] * under(crate, crate)
-        }' - crates.txt
+        i = index($0, ":") { name = substr($0, 1, i - 1); sub(/ .*/, "", name); named[name] = substr($0, i + 1) }
+        END { tell(program) }' - crates.txt
 }
 
-# by what rt said so far: crates proved, crates in all, the weight of those that were proved now, the weight of those that are left
+# by what rt said so far: crates proved, crates in all, the weight of those that were proved now, the weight of those that are left.
+# rt says nothing of a crate that it had proved before; those before the one that it speaks of are proved, in their order
 look() {
     printf '%s\n' "$weights" | awk '
-        NR == FNR { weight[$1] = $2; all++; left += $2; next }
-        /^rt: [^ ]+ proved \(/ && $2 in weight {
-            proved++
-            left -= weight[$2]
-            if ($4 != "(unchanged") now += weight[$2]
-        }
+        function up_to(k) { for (; proved < k; proved++) left -= weight[proved + 1] }
+        NR == FNR { place[$1] = ++all; weight[all] = $2; left += $2; next }
+        /^rt: chose --jobs [0-9]+ for / && $NF in place { up_to(place[$NF] - 1) }
+        /^crate [^ ]+: / { crate = substr($2, 1, length($2) - 1) }
+        /^logic=proved / && crate in place { now += weight[place[crate]]; up_to(place[crate]) }
+        /^rt: running out\// { up_to(all) }
         END { printf "%d %d %d %d\n", proved, all, now, left }' - "$log"
 }
 

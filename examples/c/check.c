@@ -1,7 +1,7 @@
 /* check.c: is a file as the clearing house wants it? Prints the first line that `pay check` prints. With any compiler for C99, from the project's root:
  *
  *     reference/archive
- *     cc -std=c99 -Iinclude examples/c/check.c target/staticlib/$(uname -m)/libpay_c.a -o target/check
+ *     cc -std=c99 -Iinclude examples/c/check.c crates/pay_c/out/libpay_c.a -o target/check
  *     target/check 011025 examples/whole.txt
  *
  * It ends with 0 accepted, 1 refused, 2 trouble, which is told on standard error.

@@ -1,7 +1,7 @@
 /* close.c: closes a draft that the program made itself, saves the file, and parts it behind its first assignment. Built as check.c beside it:
  *
  *     reference/archive
- *     cc -std=c99 -Iinclude examples/c/close.c target/staticlib/$(uname -m)/libpay_c.a -o target/close
+ *     cc -std=c99 -Iinclude examples/c/close.c crates/pay_c/out/libpay_c.a -o target/close
  *     target/close closed.txt first.txt second.txt
  *
  * It ends with 0 done, 1 refused, 2 trouble, which is told on standard error.

@@ -1,7 +1,7 @@
 /* make.c: a small till. Makes the records of a draft from values, closes it and saves the file, which is examples/whole.txt. Built as check.c beside it:
  *
  *     reference/archive
- *     cc -std=c99 -Iinclude examples/c/make.c target/staticlib/$(uname -m)/libpay_c.a -o target/make
+ *     cc -std=c99 -Iinclude examples/c/make.c crates/pay_c/out/libpay_c.a -o target/make
  *     target/make made.txt
  *
  * It ends with 0 done, 1 refused, 2 trouble, which is told on standard error.

@@ -2,7 +2,7 @@
 //!
 //! ```text
 //! reference/archive
-//! rustc --edition 2024 -O examples/rust/check.rs -C link-arg=target/staticlib/$(uname -m)/libpay_c.a -o target/check
+//! rustc --edition 2024 -O examples/rust/check.rs -C link-arg=crates/pay_c/out/libpay_c.a -o target/check
 //! target/check 011025 examples/whole.txt
 //! ```
 //!

@@ -15,7 +15,7 @@ use Rattle.dates.specs.declared.ProcessDay.{ProcessDay}
 use Rattle.dates.specs.declared.Window.{Window}
 use Rattle.dates.specs.declared.Opening.{Opening}
 use Rattle.dates.specs.declared.Opening.TheVariants.{Open, NoDay}
-use Rattle.figures.specs.Totals.{none, one_record}
+use Rattle.figures.specs.Totals.{none, one_record, ◌⊕◌}
 use Rattle.figures.specs.declared.totals.Totals.{Totals}
 use Rattle.laws.specs.Meets.{Meets}
 use Rattle.laws.specs.Plain.{of_type}
@@ -33,7 +33,7 @@ use Rattle.operations.specs.Closing.{given, on_accepted}
 use Rattle.operations.specs.Joining.{sender, of_operand, weigh_both, weigh_second, weigh_join, join_of, without_end, joined_file}
 use Rattle.operations.specs.Promises.{JoinPromise}
 use Rattle.rules.specs.Codes.{record_code}
-use Rattle.rules.specs.Growth.{start, turn, keys, all_keys}
+use Rattle.rules.specs.Growth.{start, gain, turn, keys, all_keys}
 use Rattle.rules.specs.Layouts.{table_for, rows, record20}
 use Rattle.rules.specs.Refusals.{refusal, refused}
 use Rattle.rules.specs.Run.{records_of, judge, on_window, check_of}
@@ -60,7 +60,7 @@ readable m w f ks a r h = record { agreement = λ e. (opening e).1.1.1.1.1.0; nu
 all_readable : (m : Mode) (w : Window) (f : Totals) (ks : List ℕ) (a : Assignment) (rs : List (List ℕ)) → Meets m w f ks a rs → KeysReadable rs
 unfolding Meets KeysReadable
 all_readable m w f ks a [] h = tt
-all_readable m w f ks a (r ∷ rs) h = (readable m w f ks a r h.0, all_readable m w _ _ (turn r a) rs h.1)
+all_readable m w f ks a (r ∷ rs) h = (readable m w f ks a r h.0, all_readable m w (f ⊕ gain r) (ks ++ keys r) (turn r a) rs h.1)
 
 few_of_type : (n : ℕ) (rs : List (List ℕ)) → length (of_type n rs) ≤ length rs
 unfolding of_type

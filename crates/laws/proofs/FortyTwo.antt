@@ -1,5 +1,7 @@
 -- There are 42 places: the mask of a message whose records meet their rules has no more ones, and an unplaced record is counted only where there is one.
 -- Assumes nothing.
+use mathlib.Core.List.{◌++◌}
+use Rattle.figures.specs.Totals.{◌⊕◌}
 use Prim.Native.Nat.{ℕ, ◌+◌, ◌-◌, ◌/◌, ◌%◌, ◌^◌, ◌≤◌, ◌<◌}
 use mathlib.Core.Logic.{◌⊎◌, inl, inr}
 use mathlib.Core.Path.{◌≡◌, refl, sym, ap, ap₂, subst, ◌∙◌}
@@ -16,7 +18,7 @@ use Rattle.fields.proofs.Tests.{and_left, and_right}
 use Rattle.dates.specs.declared.Window.{Window}
 use Rattle.figures.specs.declared.totals.Totals.{Totals}
 use Rattle.rules.specs.Codes.{kind_of}
-use Rattle.rules.specs.Growth.{turn_for, turn}
+use Rattle.rules.specs.Growth.{gain, keys, turn_for, turn}
 use Rattle.rules.specs.Messages.{with_place, place_of, is_place, with49, has_place}
 use Rattle.rules.specs.declared.Assignment.{Assignment}
 use Rattle.rules.specs.declared.Kind.{Kind}
@@ -71,7 +73,7 @@ one_49 ps line column l c f = go (is_place line column) refl
 pub of_places_lem : (m : Mode) (w : Window) (f : Totals) (ks : List ℕ) (a : Assignment) (rs : List (List ℕ)) → Meets m w f ks a rs → OfPlaces a.places.mask → OfPlaces (turns a rs).places.mask
 unfolding Meets turns
 of_places_lem m w f ks a [] h o = o
-of_places_lem m w f ks a (r ∷ rs) h o = of_places_lem m w _ _ (turn r a) rs h.1 (go (kind_of r) refl)
+of_places_lem m w f ks a (r ∷ rs) h o = of_places_lem m w (f ⊕ gain r) (ks ++ keys r) (turn r a) rs h.1 (go (kind_of r) refl)
   where
     go : (k : Kind) → kind_of r ≡ k → OfPlaces (turn_for k r a).places.mask
     go R10 e = no_place

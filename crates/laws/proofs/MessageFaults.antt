@@ -226,18 +226,18 @@ module _ (m : Mode) (w : Window) where
   outside_stays : (f : Totals) (ks : List ℕ) (a : Assignment) (rs : List (List ℕ)) → Meets m w f ks a rs → NoPayment rs → Outside a → Outside (turns a rs)
   unfolding Meets NoPayment turns AllHold
   outside_stays f ks a [] h n o = o
-  outside_stays f ks a (r ∷ rs) h n o = outside_stays _ _ (turn r a) rs h.1 n.1 (outside_on m a (kind_of r) r n.0 h.0.1.0 o)
+  outside_stays f ks a (r ∷ rs) h n o = outside_stays (f ⊕ gain r) (ks ++ keys r) (turn r a) rs h.1 n.1 (outside_on m a (kind_of r) r n.0 h.0.1.0 o)
 
   used_since : (f : Totals) (ks : List ℕ) (a : Assignment) (rs : List (List ℕ)) → Meets m w f ks a rs → NoPayment rs
       → (used (turns a rs).places ≡ used a.places + count49 rs) ⊎ Outside (turns a rs)
   unfolding Meets NoPayment turns count49
   used_since f ks a [] h n = inl (omega arith)
-  used_since f ks a (r ∷ rs) h n = go (eqb (number_of_kind (kind_of r)) 49) refl (used_since _ _ (turn r a) rs h.1 n.1)
+  used_since f ks a (r ∷ rs) h n = go (eqb (number_of_kind (kind_of r)) 49) refl (used_since (f ⊕ gain r) (ks ++ keys r) (turn r a) rs h.1 n.1)
     where
       same : used (turns (turn r a) rs).places ≡ used (turn r a).places + count49 rs → ((turn r a).places ≡ a.places) ⊎ Outside (turn r a)
           → (used (turns (turn r a) rs).places ≡ used a.places + (0 + count49 rs)) ⊎ Outside (turns (turn r a) rs)
       same u (inl e) = inl (omega (arith, u, ap used e))
-      same u (inr o) = inr (outside_stays _ _ (turn r a) rs h.1 n.1 o)
+      same u (inr o) = inr (outside_stays (f ⊕ gain r) (ks ++ keys r) (turn r a) rs h.1 n.1 o)
 
       go : (b : Bool) → eqb (number_of_kind (kind_of r)) 49 ≡ b → (used (turns (turn r a) rs).places ≡ used (turn r a).places + count49 rs) ⊎ Outside (turns (turn r a) rs)
           → (used (turns (turn r a) rs).places ≡ used a.places + ((if b then 1 else 0) + count49 rs)) ⊎ Outside (turns (turn r a) rs)
@@ -296,7 +296,7 @@ module _ (m : Mode) (w : Window) where
         go [] h may l n = omega (arith, l, ap used none_yet, none_used)
         go (r ∷ rs) h may l n =
             let ten : kind_of r ≡ R10 = type_by (kind_of r) 10 (only (number_of_kind (kind_of r)) 10 (sym (ap (λ (j : Kind). member (number_of_kind (kind_of r)) (behind m j a.service a.code)) first) ∙ h.0.1.0)) in
-            none_behind m (turns (turn r a) rs) may (outside_stays _ _ (turn r a) rs h.1 n.1 (inr (ap (λ (j : Kind). (turn_for j r a).last) ten)))
+            none_behind m (turns (turn r a) rs) may (outside_stays (f ⊕ gain r) (ks ++ keys r) (turn r a) rs h.1 n.1 (inr (ap (λ (j : Kind). (turn_for j r a).last) ten)))
 
     full_before : FullMessage rs
     full_before = go (last_payment rs)

@@ -1,5 +1,6 @@
 -- The 49s of a transaction, from one record to the next: where none can stand, what one that meets its rules says, and how many there can be.
 -- Assumes nothing.
+use Rattle.figures.specs.Totals.{◌⊕◌}
 use Prim.Native.Nat.{ℕ, ◌+◌, ◌≤◌}
 use mathlib.Core.Logic.{◌⊎◌, inl, inr}
 use mathlib.Core.Path.{◌≡◌, refl, sym, ap, subst, ◌∙◌}
@@ -18,7 +19,7 @@ use Rattle.services.specs.Services.{code_for}
 use Rattle.layout.specs.Rows.{Row, member, AllHold}
 use Rattle.rules.specs.Codes.{kind_for, kind_of, number_of_kind, service_code}
 use Rattle.rules.specs.Fields.{number_in, bytes_in, message_of}
-use Rattle.rules.specs.Growth.{turn_for, turn}
+use Rattle.rules.specs.Growth.{gain, keys, turn_for, turn}
 use Rattle.rules.specs.Layouts.{notification49, free49, message49, record49, table_for, rows}
 use Rattle.rules.specs.Messages.{taken, used, place_in, has_place, clashes_in, with_record}
 use Rattle.rules.specs.Payments.{is_line, is_column}
@@ -138,7 +139,7 @@ module _ (m : Mode) (w : Window) where
   none_outside : (f : Totals) (ks : List ℕ) (a : Assignment) (rs rest : List (List ℕ)) → Meets m w f ks a (rs ++ rest) → NoPayment rs → Outside a → count49 rs ≡ 0
   unfolding Meets NoPayment count49 AllHold
   none_outside f ks a [] rest h n o = refl
-  none_outside f ks a (r ∷ rs) rest h n o = go (eqb (number_of_kind (kind_of r)) 49) refl (none_outside _ _ (turn r a) rs rest h.1 n.1 (outside_on m a (kind_of r) r n.0 h.0.1.0 o))
+  none_outside f ks a (r ∷ rs) rest h n o = go (eqb (number_of_kind (kind_of r)) 49) refl (none_outside (f ⊕ gain r) (ks ++ keys r) (turn r a) rs rest h.1 n.1 (outside_on m a (kind_of r) r n.0 h.0.1.0 o))
     where
       go : (b : Bool) → eqb (number_of_kind (kind_of r)) 49 ≡ b → count49 rs ≡ 0 → (if b then 1 else 0) + count49 rs ≡ 0
       go true e ih = absurd (inside m w f ks a r (is_49 (kind_of r) e) h.0 o)
@@ -162,7 +163,7 @@ module _ (m : Mode) (w : Window) where
   pub within_limit : (f : Totals) (ks : List ℕ) (a : Assignment) (rs rest : List (List ℕ)) → Meets m w f ks a (rs ++ rest) → NoPayment rs → Limited a (count49 rs)
   unfolding Meets NoPayment count49 AllHold
   within_limit f ks a [] rest h n = inl refl
-  within_limit f ks a (r ∷ rs) rest h n = go (eqb (number_of_kind (kind_of r)) 49) refl (within_limit _ _ (turn r a) rs rest h.1 n.1)
+  within_limit f ks a (r ∷ rs) rest h n = go (eqb (number_of_kind (kind_of r)) 49) refl (within_limit (f ⊕ gain r) (ks ++ keys r) (turn r a) rs rest h.1 n.1)
     where
       one : kind_of r ≡ R49 → Limited (turn r a) (count49 rs) → Limited a (1 + count49 rs)
       one e (inl z) = inr (omega (arith, z, limited m w f ks a r e h.0))
@@ -171,7 +172,7 @@ module _ (m : Mode) (w : Window) where
       same : ((turn r a).places ≡ a.places) ⊎ Outside (turn r a) → Limited (turn r a) (count49 rs) → Limited a (0 + count49 rs)
       same o (inl z) = inl (omega (arith, z))
       same (inl e) (inr l) = inr (omega (arith, l, ap used e))
-      same (inr o) (inr l) = inl (omega (arith, none_outside _ _ (turn r a) rs rest h.1 n.1 o))
+      same (inr o) (inr l) = inl (omega (arith, none_outside (f ⊕ gain r) (ks ++ keys r) (turn r a) rs rest h.1 n.1 o))
 
       go : (b : Bool) → eqb (number_of_kind (kind_of r)) 49 ≡ b → Limited (turn r a) (count49 rs) → Limited a ((if b then 1 else 0) + count49 rs)
       go true e ih = one (is_49 (kind_of r) e) ih

@@ -1,0 +1,13 @@
+-- The later of two dates, by one test.
+-- Assumes nothing.
+use borrow.Author.Tests.{lt-ltb, le-ltb}
+use Rattle.dates.specs.Dates.{later}
+use Rattle.dates.proofs.later_of.Goals as goal
+
+pub returns-then-a-b : goal.returns-then-a-b
+unfolding later
+returns-then-a-b c = simp (lt-ltb _ _ c.if-a-b.true)
+
+pub returns-else-a-b : goal.returns-else-a-b
+unfolding later
+returns-else-a-b c = simp (le-ltb _ _ c.if-a-b.false)

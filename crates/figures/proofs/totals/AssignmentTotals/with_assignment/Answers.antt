@@ -1,0 +1,7 @@
+-- A record 20 brings no date, so the last date stays.
+-- Assumes nothing.
+use Rattle.figures.proofs.Laws.{⊞-undated}
+use Rattle.figures.proofs.totals.AssignmentTotals.with_assignment.Goals as goal
+
+pub returns : goal.returns
+returns c = ⊞-undated _ _ _ c.with_assignment.ensures

@@ -1,0 +1,13 @@
+-- Record 31.
+-- Assumes nothing.
+use Rattle.rules.specs.Layouts.{texts31}
+use Rattle.make_rules.specs.Pieces.{headed}
+use Rattle.make_rules.proofs.Chains.{then_piece}
+use Rattle.rules.specs.Alone.{own_table, own_rows}
+use Rattle.make_rules.proofs.own31.Goals as goal
+
+pub returns : goal.returns
+unfolding own_table own_rows
+returns c = λ f ks.
+    let r = c.args.r.now in
+    then_piece f ks r (headed r) texts31 c.or_else.ensures (c.heading.ensures f ks) (c.texts.ensures f ks)

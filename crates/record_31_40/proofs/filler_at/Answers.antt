@@ -1,0 +1,13 @@
+-- Bytes behind the postal code: each type by its own class of bytes.
+-- Assumes nothing.
+use borrow.Author.Tests.{eq-eqb, ne_eqb}
+use Rattle.rules.specs.Payments.{filler_form}
+use Rattle.record_31_40.proofs.filler_at.Goals as goal
+
+pub returns-then-code-eq4 : goal.returns-then-code-eq4
+unfolding filler_form
+returns-then-code-eq4 c = simp (c.all_at.ensures, eq-eqb _ _ c.if-code-eq4.true)
+
+pub returns : goal.returns
+unfolding filler_form
+returns c = simp (c.all_at-2.ensures, ne_eqb _ _ c.if-code-eq4.false)
