@@ -5,8 +5,7 @@
 ghost use Rattle.std.specs.Prelude.{◌≡◌, true, ◌+◌, ◌≤◌, ◌<◌, eqb, length, take};
 ghost use Rattle.choice.specs.Choice.{if◌then◌else◌};
 ghost use Rattle.fields.specs.Bytes.{every, is_digit, text};
-ghost use Rattle.io.specs.Counts.{IsPrefixLen};
-ghost use Rattle.tool_names.specs.Names.{longer, ending_of, through_slash, folder_of};
+ghost use Rattle.tool_names.specs.Names.{IsPrefixLen, longer, ending_of, through_slash, folder_of};
 
 use std::random::RandomSource;
 
