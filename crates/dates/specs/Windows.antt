@@ -1,6 +1,6 @@
 -- Document 01, "Bytes and days": too late and too early, as the process day settles them.
 -- Assumes nothing.
-use Rattle.std.specs.Prelude.{ℕ, ◌+◌, ◌-◌, Bool, not, ◌&&◌, ltb}
+use Rattle.std.specs.Prelude.{◌+◌, ◌-◌, Bool, not, ◌&&◌, ltb}
 use Rattle.dates.specs.Dates.{date, day_of}
 use Rattle.dates.specs.declared.Date.{Date}
 use Rattle.dates.specs.declared.Day.{Day}

@@ -3,11 +3,10 @@
 use Prim.Native.Nat.{ℕ, ◌+◌, ◌-◌, ◌*◌, ◌≤◌}
 use mathlib.Core.Path.{◌≡◌, refl, ap, ◌∙◌}
 use mathlib.Core.List.{List, [], ◌∷◌}
-use mathlib.Core.Bool.{Bool, true, false}
+use mathlib.Core.Bool.{true, false}
 use native.Mathlib.Nat.{add-mul, mul-le-mul_right, not-suc-le-zero, le_of_suc-le-suc}
 use native.Mathlib.Omega.{arith}
 use lib.ListN.{length}
-use Rattle.choice.specs.Choice.{if◌then◌else◌}
 use Rattle.field_bytes.specs.Bytes.{every, is_digit}
 use Rattle.field_accounts.specs.Accounts.{weights, weighted, account_of, judged, last_digit, remainder}
 use Rattle.field_accounts.specs.OnTheWay.{weighed}

@@ -10,10 +10,8 @@ use native.Mathlib.Omega.{arith}
 use lib.Dec.{lit<}
 use lib.ListN.{length, get_or, take, drop, set, drop_of_length-le}
 use lib.Seq.{drop-cons}
-use Rattle.choice.specs.Choice.{if◌then◌else◌}
 use Rattle.field_bytes.specs.Bytes.{every, is_digit, part}
 use Rattle.field_digits.specs.Numbers.{value_from, value, number_of, code_of, written}
-use Rattle.field_digits.specs.declared.Digits.{Digits}
 use Rattle.field_digits.specs.declared.Digits.TheVariants.{Number, NotDigits}
 
 module _ (n : ℕ) (s : List ℕ) (i : ℕ) where

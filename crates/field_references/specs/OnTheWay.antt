@@ -1,6 +1,6 @@
 -- What the code computes on its way to the definitions of document 01. No promise to a caller rests on this page alone.
 -- Assumes nothing.
-use Rattle.std.specs.Prelude.{ℕ, List, [], ◌∷◌, Bool, true, false, ◌&&◌, ◌||◌}
+use Rattle.std.specs.Prelude.{ℕ, List, [], ◌∷◌, Bool, true, ◌&&◌, ◌||◌}
 use Rattle.field_bytes.specs.Bytes.{is_digit, is_blank}
 use Rattle.field_references.specs.declared.Side.{Side}
 use Rattle.field_references.specs.declared.Side.TheVariants.{Left, Right}

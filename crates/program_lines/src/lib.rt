@@ -1,16 +1,47 @@
-// What the programs read and print: a process day from six digits, and an answer as one line.
+// What the programs read and print: a file by its name and as far as there is room, a process day from six digits, and an answer as one line.
 
 #![tactic(auto)]
 
 ghost use Rattle.std.specs.Prelude.{◌≡◌};
+ghost use Rattle.std.specs.Io.{ReadsAtMost};
 ghost use Rattle.program_lines.specs.Days.{day_written};
 ghost use Rattle.program_lines.specs.Answers.{word_for};
 
 use dates::{Date, ProcessDay};
 use figures::totals::Totals;
-use libc::STDOUT_FILENO;
 use operations::Parting;
 use rules::{Refusal, Verdict};
+use std::fs::{File, Files};
+use std::io;
+use std::io::{ErrorKind, Read};
+
+// A name as the system takes it: the bytes of a text in UTF-8.
+pub fn path(name: &[u8]) -> io::Result<&str> {
+    match str::from_utf8(name) {
+        Ok(text) => Ok(text),
+        Err(_) => Err(io::Error::from(ErrorKind::InvalidData)),
+    }
+}
+
+// The file of this name, to be read.
+pub fn open<R: Files>(rt: &R, name: &[u8]) -> io::Result<R::File> {
+    File::open(rt, path(name)?)
+}
+
+// Reads until the buffer is full or the input ends, and says how many bytes came.
+pub fn read_full(input: &mut impl Read, buffer: &mut [u8]) -> io::Result<usize>
+    ensures { ReadsAtMost result buffer.new }
+{
+    let mut done: usize = 0;
+    while done < buffer.len() {
+        let n = input.read(&mut buffer[done..])?;
+        if n == 0 {
+            break;
+        }
+        done += n;
+    }
+    Ok(done)
+}
 
 // The day that six digits DDMMYY name; it may be no date.
 pub fn process_day(ddmmyy: u64) -> ProcessDay
@@ -24,21 +55,21 @@ pub fn process_day(ddmmyy: u64) -> ProcessDay
 }
 
 // A number after a blank.
-pub fn print_number(n: u64) {
-    io::write_all(STDOUT_FILENO, b" ");
-    io::print_decimal(STDOUT_FILENO, n);
+pub fn print_number(rt: &impl Print, n: u64) -> io::Result<()> {
+    rt.write_all(b" ")?;
+    rt.print(n)
 }
 
 // A date as DDMMYY.
-fn print_date(d: Date) {
+fn print_date(rt: &impl Print, d: Date) -> io::Result<()> {
     let mut digits = [48u8; 6];
     fields::put_number(&mut digits, dates::ddmmyy_of(d));
-    io::write_all(STDOUT_FILENO, b" ");
-    io::write_all(STDOUT_FILENO, &digits);
+    rt.write_all(b" ")?;
+    rt.write_all(&digits)
 }
 
-pub fn end_line() {
-    io::write_all(STDOUT_FILENO, b"\n");
+pub fn end_line(rt: &impl Print) -> io::Result<()> {
+    rt.write_all(b"\n")
 }
 
 // The word that an answer begins with, and that decides the status of the office's tool.
@@ -52,65 +83,63 @@ fn word_of(verdict: Verdict) -> [u8; 8]
 }
 
 // The five figures of an accepted file.
-fn print_figures(t: Totals) {
+fn print_figures(rt: &impl Print, t: Totals) -> io::Result<()> {
     let assignments = t.assignments;
     let transactions = t.transactions;
     let records = t.records;
     let sum = t.sum;
     let first = t.first;
-    print_number(assignments.0 as u64);
-    print_number(transactions.0 as u64);
-    print_number(records.0 as u64);
-    print_number(sum.0);
-    print_date(first);
+    print_number(rt, assignments.0 as u64)?;
+    print_number(rt, transactions.0 as u64)?;
+    print_number(rt, records.0 as u64)?;
+    print_number(rt, sum.0)?;
+    print_date(rt, first)
 }
 
 // A refusal's number, record and field.
-fn print_refusal(x: Refusal) {
-    io::print_decimal(STDOUT_FILENO, x.number as u64);
-    print_number(x.record);
-    print_number(x.field as u64);
+fn print_refusal(rt: &impl Print, x: Refusal) -> io::Result<()> {
+    rt.print(x.number)?;
+    print_number(rt, x.record)?;
+    print_number(rt, x.field as u64)
 }
 
 // An answer as document 01's program prints it, without the line's end.
-pub fn print_answer(verdict: Verdict) {
+pub fn print_answer(rt: &impl Print, verdict: Verdict) -> io::Result<()> {
     let word = word_of(verdict);
-    io::write_all(STDOUT_FILENO, &word);
+    rt.write_all(&word)?;
     match verdict {
-        Verdict::Accepted(t) => print_figures(t),
-        Verdict::Refused(x) => print_refusal(x),
+        Verdict::Accepted(t) => print_figures(rt, t),
+        Verdict::Refused(x) => print_refusal(rt, x),
     }
 }
 
 // The answer of a check.
-pub fn print_check(verdict: Verdict) {
-    print_answer(verdict);
-    end_line();
+pub fn print_check(rt: &impl Print, verdict: Verdict) -> io::Result<()> {
+    print_answer(rt, verdict)?;
+    end_line(rt)
 }
 
 // The operand of a joining's refusal, after the answer.
-pub fn print_operand(verdict: Verdict) {
+pub fn print_operand(rt: &impl Print, verdict: Verdict) -> io::Result<()> {
     match verdict {
-        Verdict::Accepted(_t) => {}
-        Verdict::Refused(x) => print_number(x.operand as u64),
+        Verdict::Accepted(_t) => Ok(()),
+        Verdict::Refused(x) => print_number(rt, x.operand as u64),
     }
 }
 
 // How many records were made, without the line's end.
-pub fn print_made(records: u64) {
-    io::write_all(STDOUT_FILENO, b"made");
-    print_number(records);
+pub fn print_made(rt: &impl Print, records: u64) -> io::Result<()> {
+    rt.write_all(b"made")?;
+    print_number(rt, records)
 }
 
 // The answer of a parting, without the line's end.
-pub fn print_parting(parting: Parting) {
+pub fn print_parting(rt: &impl Print, parting: Parting) -> io::Result<()> {
     match parting {
-        Parting::Parted(_first, _second) => {
-            io::write_all(STDOUT_FILENO, b"parted");
-        }
+        Parting::Parted(_first, _second) => rt.write_all(b"parted"),
         Parting::NoBoundary(_assignments) => {
-            print_answer(Verdict::Refused(operations::no_boundary()))
+            print_answer(rt, Verdict::Refused(operations::no_boundary()))
         }
-        Parting::NotParted(x) => print_answer(Verdict::Refused(x)),
+        Parting::NotParted(x) => print_answer(rt, Verdict::Refused(x)),
     }
 }

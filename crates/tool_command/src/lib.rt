@@ -2,12 +2,16 @@
 
 #![tactic(auto)]
 
-ghost use Rattle.std.specs.Prelude.{◌≡◌};
+ghost use Rattle.std.specs.Prelude.{◌≡◌, ◌≤◌, length};
 ghost use Rattle.fields.specs.Bytes.{same};
 ghost use Rattle.tool_command.specs.CommandLine.{command_from, words_of, no_day, day_from, number_from};
 
 use dates::ProcessDay;
 use field_digits::Digits;
+use std::env::{Env, FillError};
+
+// More words than any command takes.
+const TOO_MANY: usize = 8;
 
 #[derive(Clone, Copy)]
 pub enum Command {
@@ -53,10 +57,40 @@ fn command_from(word: &[u8]) -> Command
     Command::Unknown
 }
 
+// The word in this place of the command line, put at the start of the buffer; empty where there is none, or none that fits.
+pub fn word_at(rt: &impl Env, place: usize, buffer: &mut [u8]) -> usize
+    ensures { result ≤ length buffer.new }
+{
+    match rt.arg(place, buffer) {
+        Ok(n) => n,
+        Err(_) => 0,
+    }
+}
+
+// Whether the command line has a word in this place.
+fn has_word(rt: &impl Env, place: usize) -> bool {
+    let mut start = [0u8; 1];
+    match rt.arg(place, &mut start) {
+        Ok(_) => true,
+        Err(FillError::TooLong) => true,
+        Err(FillError::NotPresent) => false,
+    }
+}
+
+// How many words the command line has, the program's own among them; more than any command takes are not counted further.
+pub fn words_given(rt: &impl Env) -> usize {
+    for place in 0..TOO_MANY {
+        if !has_word(rt, place) {
+            return place;
+        }
+    }
+    TOO_MANY
+}
+
 // The command that the first word names.
-pub fn command_given() -> Command {
+pub fn command_given(rt: &impl Env) -> Command {
     let mut word = [0u8; 8];
-    let n = os::arg(1, &mut word);
+    let n = word_at(rt, 1, &mut word);
     command_from(&word[..n])
 }
 
@@ -99,9 +133,9 @@ fn day_from(word: &[u8]) -> ProcessDay
 }
 
 // The process day.
-pub fn day() -> ProcessDay {
+pub fn day(rt: &impl Env) -> ProcessDay {
     let mut word = [0u8; 6];
-    let n = os::arg(2, &mut word);
+    let n = word_at(rt, 2, &mut word);
     day_from(&word[..n])
 }
 
@@ -119,8 +153,8 @@ fn number_from(word: &[u8]) -> u64
 }
 
 // K of a parting.
-pub fn boundary() -> u64 {
+pub fn boundary(rt: &impl Env) -> u64 {
     let mut word = [0u8; 17];
-    let n = os::arg(4, &mut word);
+    let n = word_at(rt, 4, &mut word);
     number_from(&word[..n])
 }

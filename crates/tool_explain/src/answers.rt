@@ -2,33 +2,34 @@
 
 use figures::totals::Totals;
 use rules::{Mode, Refusal, Verdict};
+use std::io;
 
-pub fn tell_accepted(t: Totals) {
-    program_lines::print_check(Verdict::Accepted(t));
+pub fn tell_accepted(rt: &impl Print, t: Totals) -> io::Result<()> {
+    program_lines::print_check(rt, Verdict::Accepted(t))
 }
 
 // The machine's line of a refusal, and what it means.
-pub fn tell_refused(x: Refusal, mode: Mode, file: &[u8]) {
-    program_lines::print_check(Verdict::Refused(x));
-    super::explain(x, mode, file);
+pub fn tell_refused(rt: &impl Print, x: Refusal, mode: Mode, file: &[u8]) -> io::Result<()> {
+    program_lines::print_check(rt, Verdict::Refused(x))?;
+    super::explain(rt, x, mode, file)
 }
 
 // The machine's line of a refused joining, which also says which file, and what it means.
-fn tell_not_joined(x: Refusal, file: &[u8]) {
-    program_lines::print_answer(Verdict::Refused(x));
-    program_lines::print_number(x.operand as u64);
-    program_lines::end_line();
-    super::explain(x, Mode::File, file);
+fn tell_not_joined(rt: &impl Print, x: Refusal, file: &[u8]) -> io::Result<()> {
+    program_lines::print_answer(rt, Verdict::Refused(x))?;
+    program_lines::print_number(rt, x.operand as u64)?;
+    program_lines::end_line(rt)?;
+    super::explain(rt, x, Mode::File, file)
 }
 
 // A refusal speaks of the first file, of the second, or of both.
-pub fn tell_which(x: Refusal, first: &[u8], second: &[u8]) {
+pub fn tell_which(rt: &impl Print, x: Refusal, first: &[u8], second: &[u8]) -> io::Result<()> {
     if x.operand == 1 {
-        tell_not_joined(x, first);
-        return;
+        return tell_not_joined(rt, x, first);
     }
-    tell_not_joined(x, second);
+    tell_not_joined(rt, x, second)?;
     if x.number == 20 {
-        super::say_sender(first);
+        return super::say_sender(rt, first);
     }
+    Ok(())
 }

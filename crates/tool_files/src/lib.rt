@@ -2,202 +2,284 @@
 
 #![tactic(auto)]
 
+ghost use Rattle.std.specs.Prelude.{◌≤◌, length, IfOk, IfSome};
+
+use program_lines::path;
+use std::fs::{Files, OpenFile, OpenOptions};
+use std::io::{Error, ErrorKind, Read, Write};
+use std::random::RandomSource;
+use std::{fs, io};
+use tool_names::NAME_ROOM;
 use tool_phrases::say;
 
 // What the system says of a call that failed.
-fn say_error(error: i32) {
-    match error {
-        libc::ENOENT => say(b"there is no such file or folder"),
-        libc::EACCES => say(b"you have no permission for this"),
-        libc::EPERM => say(b"you have no permission for this"),
-        libc::EISDIR => say(b"it is a folder"),
-        libc::ENOTDIR => say(b"a file stands where a folder should"),
-        libc::EINVAL => say(b"it is neither a file nor a folder"),
-        libc::EEXIST => say(b"its new file is there already; do two outputs have one name?"),
-        libc::ENOSPC => say(b"the disk is full"),
-        122 => say(b"your share of the disk is full"),
-        libc::EFBIG => say(b"it would be larger than a file may be here"),
-        libc::EROFS => say(b"this disk can only be read"),
-        libc::ENAMETOOLONG => say(b"the name is too long"),
-        _ => say(b"the system could not do it"),
+fn say_error(rt: &impl Print, error: Error) -> io::Result<()> {
+    match error.kind() {
+        ErrorKind::NotFound => say(rt, b"there is no such file or folder"),
+        ErrorKind::PermissionDenied => say(rt, b"you have no permission for this"),
+        ErrorKind::IsADirectory => say(rt, b"it is a folder"),
+        ErrorKind::NotADirectory => say(rt, b"a file stands where a folder should"),
+        ErrorKind::InvalidInput => say(rt, b"it is neither a file nor a folder"),
+        ErrorKind::AlreadyExists => say(
+            rt,
+            b"its new file is there already; do two outputs have one name?",
+        ),
+        ErrorKind::StorageFull => say(rt, b"the disk is full"),
+        ErrorKind::QuotaExceeded => say(rt, b"your share of the disk is full"),
+        ErrorKind::FileTooLarge => say(rt, b"it would be larger than a file may be here"),
+        ErrorKind::ReadOnlyFilesystem => say(rt, b"this disk can only be read"),
+        ErrorKind::InvalidFilename => say(rt, b"the name is too long"),
+        ErrorKind::InvalidData => say(rt, b"the name is not a text in UTF-8"),
+        _ => say(rt, b"the system could not do it"),
     }
 }
 
-fn trouble(name: &[u8], error: i32) {
-    say(b"trouble with ");
-    say(name);
-    say(b": ");
-    say_error(error);
-    program_lines::end_line();
+fn trouble(rt: &impl Print, name: &[u8], error: Error) -> io::Result<()> {
+    say(rt, b"trouble with ")?;
+    say(rt, name)?;
+    say(rt, b": ")?;
+    say_error(rt, error)?;
+    program_lines::end_line(rt)
 }
 
-// Below 0 where the file cannot be opened, which is then told.
-pub fn open_input(name: &[u8]) -> i32 {
-    let fd = os::open_read(name);
-    if fd < 0 {
-        trouble(name, os::errno());
+// None where the file cannot be opened, which is then told.
+pub fn open_input<R: Files + Print>(rt: &R, name: &[u8]) -> io::Result<Option<R::File>> {
+    match program_lines::open(rt, name) {
+        Ok(file) => Ok(Some(file)),
+        Err(e) => {
+            trouble(rt, name, e)?;
+            Ok(None)
+        }
     }
-    fd
 }
 
 // After a full buffer or the end of an input nothing more may come; trouble is told, with how long it may be.
-pub fn ended(fd: i32, name: &[u8], most: &[u8]) -> bool {
+pub fn ended<R: Files + Print>(
+    rt: &R,
+    mut file: R::File,
+    name: &[u8],
+    most: &[u8],
+) -> io::Result<bool> {
     let mut more = [0u8; 1];
-    let left = libc::read(fd, &mut more);
-    let error = os::errno();
-    libc::close(fd);
-    if left < 0 {
-        trouble(name, error);
-        return false;
-    }
-    if 0 < left {
-        say(b"trouble with ");
-        say(name);
-        say(b": it is too long, ");
-        say(most);
-        program_lines::end_line();
-        return false;
-    }
-    true
-}
-
-// A folder with this name is no output; trouble is told.
-fn no_folder(name: &[u8]) -> bool {
-    let mut inside = io::buffer();
-    let n = tool_names::lengthened(name, b"/.", &mut inside);
-    let fd = os::open_read(&inside[..n]);
-    let error = os::errno();
-    if 0 <= fd {
-        libc::close(fd);
-        trouble(name, libc::EISDIR);
-        return false;
-    }
-    if (error == libc::ENOENT) | (error == libc::ENOTDIR) {
-        return true;
-    }
-    trouble(name, error);
-    false
-}
-
-// What stands under an output's name is a file that may be written, or nothing: a device or a pipe cannot be synced. Trouble is told.
-fn fit(name: &[u8]) -> bool {
-    if !no_folder(name) {
-        return false;
-    }
-    let fd = os::open_update(name);
-    if fd < 0 {
-        let error = os::errno();
-        if error == libc::ENOENT {
-            return true;
+    match file.read(&mut more) {
+        Ok(0) => Ok(true),
+        Ok(_) => {
+            say(rt, b"trouble with ")?;
+            say(rt, name)?;
+            say(rt, b": it is too long, ")?;
+            say(rt, most)?;
+            program_lines::end_line(rt)?;
+            Ok(false)
         }
-        trouble(name, error);
-        return false;
+        Err(e) => {
+            trouble(rt, name, e)?;
+            Ok(false)
+        }
     }
-    let synced = libc::fsync(fd) == 0;
-    libc::close(fd);
-    if !synced {
-        trouble(name, libc::EINVAL);
-    }
-    synced
 }
 
-// A new file with these bytes, whole and synced; else none, and trouble is told of the output's name.
-fn make(new: &[u8], name: &[u8], bytes: &[u8]) -> bool {
-    if !fit(name) {
-        return false;
+// How many bytes an input has, which is then whole at the start of the buffer; none where there is trouble, which is told.
+pub fn read_input(
+    rt: &(impl Files + Print),
+    name: &[u8],
+    buffer: &mut [u8],
+    most: &[u8],
+) -> io::Result<Option<usize>>
+    ensures { IfOk result (λ read. IfSome read (λ n. n ≤ length buffer.new)) }
+{
+    let Some(mut file) = open_input(rt, name)? else {
+        return Ok(None);
+    };
+    match program_lines::read_full(&mut file, buffer) {
+        Ok(n) => {
+            if ended(rt, file, name, most)? {
+                return Ok(Some(n));
+            }
+            Ok(None)
+        }
+        Err(e) => {
+            trouble(rt, name, e)?;
+            Ok(None)
+        }
     }
-    let fd = os::create(new);
-    if fd < 0 {
-        trouble(name, os::errno());
-        return false;
+}
+
+// The file of this name, to be read and written as it stands.
+fn open_update<R: Files>(rt: &R, name: &[u8]) -> io::Result<R::File> {
+    OpenOptions::new()
+        .read(true)
+        .write(true)
+        .open(rt, path(name)?)
+}
+
+// A new file, which takes the place of none.
+fn create<R: Files>(rt: &R, name: &[u8]) -> io::Result<R::File> {
+    OpenOptions::new()
+        .write(true)
+        .create_new(true)
+        .open(rt, path(name)?)
+}
+
+fn rename(rt: &impl Files, from: &[u8], to: &[u8]) -> io::Result<()> {
+    fs::rename(rt, path(from)?, path(to)?)
+}
+
+fn unlink(rt: &impl Files, name: &[u8]) -> io::Result<()> {
+    fs::remove_file(rt, path(name)?)
+}
+
+// A folder with this name is no output.
+fn no_folder(rt: &impl Files, name: &[u8]) -> io::Result<()> {
+    let mut inside = [0u8; NAME_ROOM];
+    let n = tool_names::lengthened(name, b"/.", &mut inside);
+    match program_lines::open(rt, &inside[..n]) {
+        Ok(_folder) => Err(Error::from(ErrorKind::IsADirectory)),
+        Err(e) => match e.kind() {
+            ErrorKind::NotFound => Ok(()),
+            ErrorKind::NotADirectory => Ok(()),
+            _ => Err(e),
+        },
     }
-    let whole = io::write_all(fd, bytes) && libc::fsync(fd) == 0;
-    let error = os::errno();
-    if (libc::close(fd) == 0) & whole {
-        return true;
+}
+
+// What stands under an output's name is a file that may be written, or nothing: a device or a pipe cannot be synced.
+fn fit(rt: &impl Files, name: &[u8]) -> io::Result<()> {
+    no_folder(rt, name)?;
+    match open_update(rt, name) {
+        Ok(file) => match file.sync_all() {
+            Ok(()) => Ok(()),
+            Err(_) => Err(Error::from(ErrorKind::InvalidInput)),
+        },
+        Err(e) => match e.kind() {
+            ErrorKind::NotFound => Ok(()),
+            _ => Err(e),
+        },
     }
-    trouble(name, error);
-    os::unlink(new);
-    false
+}
+
+// Bytes into a new file, all of them and synced.
+fn fill(file: &mut (impl Write + OpenFile), bytes: &[u8]) -> io::Result<()> {
+    file.write_all(bytes)?;
+    file.sync_all()
+}
+
+// A new file with these bytes, whole and synced; else none.
+fn make(rt: &impl Files, new: &[u8], name: &[u8], bytes: &[u8]) -> io::Result<()> {
+    fit(rt, name)?;
+    let mut file = create(rt, new)?;
+    let filled = fill(&mut file, bytes);
+    if filled.is_err() {
+        let _ = unlink(rt, new);
+    }
+    filled
 }
 
 // The new file takes the output's name, or goes.
-fn settle(new: &[u8], name: &[u8]) -> bool {
-    if os::rename(new, name) == 0 {
-        return true;
+fn settle(rt: &impl Files, new: &[u8], name: &[u8]) -> io::Result<()> {
+    let settled = rename(rt, new, name);
+    if settled.is_err() {
+        let _ = unlink(rt, new);
     }
-    trouble(name, os::errno());
-    os::unlink(new);
-    false
+    settled
 }
 
 // The folder of an output keeps its new name, also when the power goes. A system that cannot do this is let pass: the file itself is whole.
-fn sync_folder(name: &[u8]) {
-    let mut folder = io::buffer();
+fn sync_folder(rt: &impl Files, name: &[u8]) {
+    let mut folder = [0u8; NAME_ROOM];
     let n = tool_names::folder(name, &mut folder);
-    let fd = os::open_read(&folder[..n]);
-    if fd < 0 {
-        return;
+    if let Ok(at) = program_lines::open(rt, &folder[..n]) {
+        let _ = at.sync_all();
     }
-    libc::fsync(fd);
-    libc::close(fd);
 }
 
-// One output, whole or not at all.
-pub fn save(name: &[u8], bytes: &[u8]) -> bool {
-    let mut buffer = io::buffer();
-    let n = tool_names::beside(name, tool_names::mark(), [110, 101, 119], &mut buffer);
-    if !make(&buffer[..n], name, bytes) {
-        return false;
+// Whether an output was saved; trouble is told, once all is as it was.
+fn told(rt: &impl Print, name: &[u8], saved: io::Result<()>) -> io::Result<bool> {
+    match saved {
+        Ok(()) => Ok(true),
+        Err(e) => {
+            trouble(rt, name, e)?;
+            Ok(false)
+        }
     }
-    if !settle(&buffer[..n], name) {
-        return false;
-    }
-    sync_folder(name);
-    true
+}
+
+// The new file is made, takes the output's name, and its folder keeps that.
+fn replace(rt: &impl Files, new: &[u8], name: &[u8], bytes: &[u8]) -> io::Result<()> {
+    make(rt, new, name, bytes)?;
+    settle(rt, new, name)?;
+    sync_folder(rt, name);
+    Ok(())
+}
+
+// One output, whole or not at all; trouble is told.
+pub fn save(
+    rt: &(impl Files + Print + RandomSource),
+    name: &[u8],
+    bytes: &[u8],
+) -> io::Result<bool> {
+    let mut new = [0u8; NAME_ROOM];
+    let n = tool_names::beside(name, tool_names::mark(rt), [110, 101, 119], &mut new);
+    told(rt, name, replace(rt, &new[..n], name, bytes))
 }
 
 // What stood under a name before comes back to it.
-fn bring_back(stood: bool, old: &[u8], name: &[u8]) {
+fn bring_back(rt: &impl Files, stood: bool, old: &[u8], name: &[u8]) {
     if stood {
-        os::rename(old, name);
+        let _ = rename(rt, old, name);
     }
 }
 
 // Two new files take their outputs' names, both or neither: what had the first name is kept aside until both are there.
-fn exchange(first: &[u8], new1: &[u8], old: &[u8], second: &[u8], new2: &[u8]) -> bool {
-    let stood = os::rename(first, old) == 0;
-    if !settle(new1, first) {
-        os::unlink(new2);
-        bring_back(stood, old, first);
-        return false;
+fn exchange(
+    rt: &(impl Files + Print),
+    first: &[u8],
+    new1: &[u8],
+    old: &[u8],
+    second: &[u8],
+    new2: &[u8],
+) -> io::Result<bool> {
+    let stood = rename(rt, first, old).is_ok();
+    let settled = settle(rt, new1, first);
+    if settled.is_err() {
+        let _ = unlink(rt, new2);
+        bring_back(rt, stood, old, first);
+        return told(rt, first, settled);
     }
-    if !settle(new2, second) {
-        os::unlink(first);
-        bring_back(stood, old, first);
-        return false;
+    let settled = settle(rt, new2, second);
+    if settled.is_err() {
+        let _ = unlink(rt, first);
+        bring_back(rt, stood, old, first);
+        return told(rt, second, settled);
     }
-    sync_folder(first);
-    sync_folder(second);
-    os::unlink(old);
-    true
+    sync_folder(rt, first);
+    sync_folder(rt, second);
+    let _ = unlink(rt, old);
+    Ok(true)
 }
 
-// Two outputs, both whole or neither.
-pub fn save_both(first: &[u8], bytes1: &[u8], second: &[u8], bytes2: &[u8]) -> bool {
-    let m = tool_names::mark();
-    let mut new1 = io::buffer();
+// Two outputs, both whole or neither; trouble is told.
+pub fn save_both(
+    rt: &(impl Files + Print + RandomSource),
+    first: &[u8],
+    bytes1: &[u8],
+    second: &[u8],
+    bytes2: &[u8],
+) -> io::Result<bool> {
+    let m = tool_names::mark(rt);
+    let mut new1 = [0u8; NAME_ROOM];
     let a = tool_names::beside(first, m, [110, 101, 119], &mut new1);
-    if !make(&new1[..a], first, bytes1) {
-        return false;
+    let made = make(rt, &new1[..a], first, bytes1);
+    if made.is_err() {
+        return told(rt, first, made);
     }
-    let mut new2 = io::buffer();
+    let mut new2 = [0u8; NAME_ROOM];
     let b = tool_names::beside(second, m, [110, 101, 119], &mut new2);
-    if !make(&new2[..b], second, bytes2) {
-        os::unlink(&new1[..a]);
-        return false;
+    let made = make(rt, &new2[..b], second, bytes2);
+    if made.is_err() {
+        let _ = unlink(rt, &new1[..a]);
+        return told(rt, second, made);
     }
-    let mut old = io::buffer();
+    let mut old = [0u8; NAME_ROOM];
     let c = tool_names::beside(first, m, [111, 108, 100], &mut old);
-    exchange(first, &new1[..a], &old[..c], second, &new2[..b])
+    exchange(rt, first, &new1[..a], &old[..c], second, &new2[..b])
 }

@@ -10,7 +10,7 @@ use borrow.Rule.Slice.PartMut.{put_mid}
 use lib.Dec.{eqb}
 use lib.ListN.{length, get_or, take, drop, length-append, drop_of_length-le}
 use lib.Seq.{take_at, drop-cons}
-use Rattle.io.specs.Counts.{IsPrefixLen}
+use Rattle.tool_names.specs.Names.{IsPrefixLen}
 use Rattle.choice.specs.Choice.{if◌then◌else◌}
 use Rattle.fields.specs.Bytes.{is_digit}
 use Rattle.fields.proofs.Tests.{and_both}

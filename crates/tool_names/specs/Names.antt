@@ -1,7 +1,11 @@
 -- The names of the files that an output is made by: each stands beside the output, its name being the output's with an ending. And an output's folder.
 -- Assumes nothing.
-use Rattle.std.specs.Prelude.{ℕ, ◌+◌, List, [], ◌∷◌, ◌++◌, eqb, leb, length, get_or, take}
+use Rattle.std.specs.Prelude.{ℕ, ◌+◌, ◌≡◌, ◌≤◌, List, [], ◌∷◌, ◌++◌, eqb, leb, length, get_or, take}
 use Rattle.choice.specs.Choice.{if◌then◌else◌}
+
+-- so many bytes stand at the start of these
+abbrev pub IsPrefixLen : ℕ → List ℕ → Type 0
+IsPrefixLen n xs = (n ≤ length xs) × (n ≡ length (take n xs))
 
 -- a name with an ending; none where there is no room for it
 unfoldable pub longer : ℕ → List ℕ → List ℕ → List ℕ

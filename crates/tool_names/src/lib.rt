@@ -5,8 +5,12 @@
 ghost use Rattle.std.specs.Prelude.{◌≡◌, true, ◌+◌, ◌≤◌, ◌<◌, eqb, length, take};
 ghost use Rattle.choice.specs.Choice.{if◌then◌else◌};
 ghost use Rattle.fields.specs.Bytes.{every, is_digit, text};
-ghost use Rattle.io.specs.Counts.{IsPrefixLen};
-ghost use Rattle.tool_names.specs.Names.{longer, ending_of, through_slash, folder_of};
+ghost use Rattle.tool_names.specs.Names.{IsPrefixLen, longer, ending_of, through_slash, folder_of};
+
+use std::random::RandomSource;
+
+// Room for any name that the system takes.
+pub const NAME_ROOM: usize = 4096;
 
 // A name with the ending after it; none where that is too long for the buffer.
 pub fn lengthened(name: &[u8], ending: &[u8], buffer: &mut [u8]) -> usize
@@ -48,12 +52,12 @@ fn digit(b: u8) -> u8
     48 + b % 10
 }
 
-// Seven digits by chance, so that no two runs make one file.
-pub fn mark() -> [u8; 7]
+// Seven digits by chance, so that no two runs make one file; zeros where the system gives none. A new file never takes the place of one that is there.
+pub fn mark(rt: &impl RandomSource) -> [u8; 7]
     ensures { every is_digit result ≡ true }
 {
     let mut chance = [0u8; 7];
-    libc::getentropy(&mut chance);
+    let _ = rt.fill_bytes(&mut chance);
     [
         digit(chance[0]),
         digit(chance[1]),

@@ -1,11 +1,10 @@
-use Prim.Native.Nat.{ℕ, ◌<◌, ◌-◌, zero-le}
+use Prim.Native.Nat.{ℕ, ◌<◌, zero-le}
 use mathlib.Core.Path.{◌≡◌, refl, sym, ◌∙◌}
 use native.Mathlib.Omega.{arith}
 use lib.Dec.{lit<}
 use lib.ListN.{get_or}
 use mathlib.Core.Bool.{true}
 use Rattle.field_bytes.specs.Bytes.{is_digit}
-use Rattle.field_digits.specs.Numbers.{value}
 use Rattle.field_bytes.proofs.Every.{every_at, digit_low, digit_high}
 use Rattle.field_digits.proofs.Values.{value_next, value_end, grows, room}
 use Rattle.field_digits.proofs.value_of.Goals.{After-shared_slice_known-in-loop-i-1, After-wide}

@@ -1,7 +1,6 @@
-use Prim.Native.Nat.{◌-◌}
 use mathlib.Core.Path.{refl}
 use native.Mathlib.Omega.{arith}
-use Rattle.field_references.specs.OnTheWay.{joins, chain}
+use Rattle.field_references.specs.OnTheWay.{joins}
 use Rattle.field_bytes.proofs.Tests.{one_more, none_left}
 use Rattle.field_references.proofs.Runs.{chain_next, chain_end}
 use Rattle.field_references.proofs.runs_to.Goals as goal

@@ -1,7 +1,6 @@
-use Prim.Native.Nat.{◌-◌}
-use mathlib.Core.Path.{refl, ap}
+use mathlib.Core.Path.{refl}
 use native.Mathlib.Omega.{arith}
-use lib.ListN.{length, take}
+use lib.ListN.{take}
 use Rattle.field_texts.proofs.Wrote.{wrote_none, wrote_length, copied_more, told}
 use lib.Seq.{take_all}
 use Rattle.field_texts.proofs.copy_to.Goals as goal

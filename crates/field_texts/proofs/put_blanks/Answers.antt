@@ -1,7 +1,5 @@
-use Prim.Native.Nat.{◌-◌}
 use mathlib.Core.Path.{refl}
 use native.Mathlib.Omega.{arith}
-use lib.ListN.{length}
 use Rattle.field_texts.proofs.Wrote.{wrote_length}
 use Rattle.field_texts.proofs.Widths.{blank_start, blank_more, blank_end}
 use Rattle.field_texts.proofs.put_blanks.Goals as goal

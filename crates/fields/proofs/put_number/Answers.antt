@@ -2,7 +2,7 @@ use Prim.Native.Nat.{suc, ◌<◌, ◌-◌}
 use mathlib.Core.Path.{◌≡◌, refl, sym, ◌∙◌}
 use native.Mathlib.Nat.{sub_self, div-one}
 use native.Mathlib.Omega.{arith}
-use lib.ListN.{length, drop, length-set, drop_of_length-le}
+use lib.ListN.{length, length-set, drop_of_length-le}
 use Rattle.field_digits.specs.Numbers.{written}
 use Rattle.field_digits.proofs.Values.{written_length, rest_next, places_next}
 use Rattle.fields.proofs.put_number.Goals as goal

@@ -1,7 +1,6 @@
-use Prim.Native.Nat.{◌-◌, zero-le}
+use Prim.Native.Nat.{zero-le}
 use mathlib.Core.Path.{refl}
 use native.Mathlib.Omega.{arith}
-use Rattle.field_bytes.specs.Bytes.{every}
 use Rattle.field_bytes.specs.Classes.{in_class}
 use Rattle.field_bytes.proofs.Tests.{one_more, none_left}
 use Rattle.field_bytes.proofs.Every.{every_next, every_end}

@@ -1,7 +1,6 @@
-use Prim.Native.Nat.{◌-◌, zero-le}
+use Prim.Native.Nat.{zero-le}
 use mathlib.Core.Path.{refl}
 use native.Mathlib.Omega.{arith}
-use Rattle.field_bytes.specs.Bytes.{same}
 use Rattle.field_bytes.proofs.Tests.{one_more, none_left}
 use Rattle.field_bytes.proofs.Every.{same_next, same_end}
 use Rattle.field_bytes.proofs.texts.each_same.Goals as goal
