@@ -8,8 +8,8 @@ use native.Mathlib.Omega.{arith}
 use native.Mathlib.Numerals.{add-one}
 use borrow.Author.Tests.{eqb-true, lt-ltb, ltb-true, ltb-false}
 use lib.Dec.{eqb, ltb}
-use lib.ListN.{length, take, drop, length-drop}
-use lib.Seq.{drop-drop, take-add}
+use lib.ListN.{length, take, drop}
+use lib.Seq.{drop-drop}
 use Rattle.choice.specs.Choice.{if◌then◌else◌}
 use Rattle.services.specs.declared.Service.{Service}
 use Rattle.figures.specs.Totals.{◌⊕◌, one_record, one_assignment, ◌⊞◌, undated, dated}
@@ -20,7 +20,7 @@ use Rattle.laws.proofs.Sound.{gains_join}
 use Rattle.laws.specs.Meets.{gains, Meets}
 use Rattle.layout.specs.Rows.{AllHold}
 use Rattle.operations.specs.Ends.{end_record, end88}
-use Rattle.operations.specs.Closing.{opens, behind88, ends_before, with_ends, bytes_of}
+use Rattle.operations.specs.Closing.{opens, behind88, ends_before, with_ends}
 use Rattle.services.specs.Services.{code_for, service_for}
 use Rattle.rules.specs.Codes.{service_code, record_code, kind_of}
 use Rattle.rules.specs.Growth.{gain_for, gain, turn_for, turn, keys, after, opened}

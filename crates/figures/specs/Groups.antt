@@ -1,6 +1,6 @@
 -- Document 01, "What may follow": a group of records 50. The sub-specifications (type 16) less the credit notes (type 17) give the amount.
 -- Assumes nothing.
-use Rattle.std.specs.Prelude.{ℕ, ◌+◌, Bool, eqb}
+use Rattle.std.specs.Prelude.{◌+◌, Bool, eqb}
 use Rattle.figures.specs.Figures.{amount, plus}
 use Rattle.figures.specs.declared.amounts.Amount.{Amount}
 use Rattle.figures.specs.declared.groups.Group.{Group}

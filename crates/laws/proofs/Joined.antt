@@ -9,7 +9,6 @@ use Rattle.dates.specs.Windows.{window_of}
 use Rattle.dates.specs.declared.ProcessDay.{ProcessDay}
 use Rattle.dates.specs.declared.Window.{Window}
 use Rattle.dates.specs.declared.Opening.TheVariants.{Open}
-use Rattle.fields.specs.Bytes.{part}
 use Rattle.figures.specs.declared.totals.Totals.{Totals}
 use Rattle.limits.specs.Limits.{record_bytes}
 use Rattle.rules.specs.Run.{records_of, check_of}

@@ -1,6 +1,6 @@
 -- Making a record: it is refused exactly for a value that is too long, for one of its own rules or for want of room; what is made reads back, and in a file only the rows on assignment, process day and file are left to hold.
 -- Assumes nothing.
-use Prim.Native.Nat.{ℕ, ◌+◌, ◌≤◌, ◌<◌, ◌^◌}
+use Prim.Native.Nat.{ℕ, ◌^◌}
 use mathlib.Core.Path.{◌≡◌, refl, sym, ap, ap₂, subst, ◌∙◌}
 use mathlib.Core.Logic.{◌↔◌}
 use mathlib.Core.List.{List, [], ◌∷◌, ◌++◌, append_assoc}
@@ -12,27 +12,26 @@ use lib.ListN.{length, get_or, take, drop, length-append}
 use lib.Seq.{take_at}
 use Rattle.choice.specs.Choice.{if◌then◌else◌}
 use Rattle.limits.specs.Limits.{record_bytes}
-use Rattle.fields.specs.Bytes.{part, same, text}
+use Rattle.fields.specs.Bytes.{part, same}
 use Rattle.fields.specs.Numbers.{value, number_of, written, code_of}
 use Rattle.fields.proofs.Every.{same_self}
 use Rattle.fields.proofs.Values.{number_is, written_length}
 use Rattle.fields.proofs.Width.{digit_field}
-use Rattle.field_texts.specs.Texts.{to_left, to_right}
+use Rattle.field_texts.specs.Texts.{to_left}
 use Rattle.field_texts.proofs.Widths.{left_length, right_length}
 use Rattle.dates.specs.declared.Window.{Window}
 use Rattle.figures.specs.Totals.{none}
 use Rattle.figures.specs.declared.totals.Totals.{Totals}
-use Rattle.layout.specs.Rows.{Row, at, must, file, passes, first_fault, AllHold, alone, other_rows, row_number, row_field}
+use Rattle.layout.specs.Rows.{Row, at, must, file, passes, first_fault, AllHold, other_rows, row_number, row_field}
 use Rattle.layout.specs.declared.Finding.{Finding}
 use Rattle.layout.specs.declared.Finding.TheVariants.{Sound, Fault}
-use Rattle.layout.proofs.Laws.{next, stop, sound_of_all, all_of_sound, fault_not_sound}
+use Rattle.layout.proofs.Laws.{next, sound_of_all, all_of_sound, fault_not_sound}
 use Rattle.rules.specs.Alone.{listed_for, own_rows, own_table}
-use Rattle.rules.specs.Codes.{kind_for, kind_of, number_of_kind, service_code}
+use Rattle.rules.specs.Codes.{kind_for, kind_of, service_code}
 use Rattle.rules.specs.Fields.{number_in, bytes_in, message_of, message_by}
 use Rattle.rules.specs.Layouts.{repeats, notification49, message49, fields49, table_for, rows}
 use Rattle.rules.specs.Growth.{nothing_yet}
 use Rattle.rules.specs.Messages.{no_places}
-use Rattle.rules.specs.Refusals.{refusal}
 use Rattle.rules.specs.declared.Assignment.{Assignment}
 use Rattle.rules.specs.declared.Kind.{Kind}
 use Rattle.rules.specs.declared.Kind.TheVariants.{R10, R20, R30, R31, R40, R41, R49, R50, R88, R89, Other}
@@ -43,7 +42,7 @@ use Rattle.operations.specs.Closing.{bytes_of}
 use Rattle.operations.specs.Making.{Put, record_from, too_long, not_made, on_sound, judged, make_of, lent_record, made_bytes, head, number, notification, message, code_by}
 use Rattle.operations.specs.declared.Making.{Making}
 use Rattle.operations.specs.declared.Making.TheVariants.{Made, NotMade}
-use Rattle.laws.specs.Makable.{AllFit, LongValue, OwnHold, OwnFault, Makes, MakeRefusing, too_long_value, own_rule, no_room, Values, of10, of20, of30, of31, of40, of41, of49, of50, HeadRead, ReadsBack}
+use Rattle.laws.specs.Makable.{AllFit, LongValue, Makes, MakeRefusing, too_long_value, own_rule, no_room, Values, of10, of20, of30, of31, of40, of41, of49, of50, HeadRead, ReadsBack}
 use Rattle.laws.specs.Saved.{Saved}
 use Rattle.laws.proofs.Bytes.{cuts, widths, cut_again, laid_length, total}
 use Rattle.laws.proofs.EndRecords.{cuts_from, from_place, code_reads}

@@ -26,7 +26,7 @@ use Rattle.rules.specs.Fields.{on, message_of}
 use Rattle.rules.specs.Growth.{turn_for, turn, start}
 use Rattle.rules.specs.Layouts.{repeats, notification49, record49, rows}
 use Rattle.rules.specs.Messages.{taken, place_of, is_place, used, place_at, has_place_at, place_in, has_place, clashes_in}
-use Rattle.rules.specs.Order.{behind, may_follow}
+use Rattle.rules.specs.Order.{may_follow}
 use Rattle.rules.specs.Payments.{line, column}
 use Rattle.rules.specs.Run.{records_of, check_of}
 use Rattle.rules.specs.declared.Assignment.{Assignment}

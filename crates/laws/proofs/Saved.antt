@@ -7,7 +7,6 @@ use native.Mathlib.Omega.{arith}
 use lib.ListN.{length, take, drop, length-append, length-drop}
 use lib.Seq.{take_at}
 use Rattle.dates.specs.declared.ProcessDay.{ProcessDay}
-use Rattle.figures.specs.declared.counts.Count.{Count}
 use Rattle.figures.specs.declared.totals.Totals.{Totals}
 use Rattle.rules.specs.declared.Refusal.{Refusal}
 use Rattle.rules.specs.declared.Verdict.{Verdict}

@@ -24,7 +24,6 @@ use Rattle.rules.specs.Layouts.{notification49, free49, message49, record49, tab
 use Rattle.rules.specs.Messages.{taken, used, place_in, has_place, clashes_in, with_record}
 use Rattle.rules.specs.Payments.{is_line, is_column}
 use Rattle.rules.specs.Order.{behind, may_follow}
-use Rattle.rules.specs.Payments.{line, column}
 use Rattle.rules.specs.declared.Assignment.{Assignment}
 use Rattle.rules.specs.declared.Kind.{Kind}
 use Rattle.rules.specs.declared.Kind.TheVariants.{R10, R20, R30, R31, R40, R41, R49, R50, R88, R89, Other}

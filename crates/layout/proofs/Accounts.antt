@@ -3,7 +3,7 @@
 use Prim.Native.Nat.{ℕ}
 use mathlib.Core.Path.{◌≡◌, refl, sym, ◌∙◌, ap}
 use mathlib.Core.List.{List, [], ◌∷◌}
-use mathlib.Core.Bool.{Bool, true, false, ◌&&◌, false≢true}
+use mathlib.Core.Bool.{Bool, true, false}
 use lib.Dec.{eqb}
 use Rattle.choice.specs.Choice.{if◌then◌else◌}
 use Rattle.fields.specs.Bytes.{every, is_digit, part}
@@ -12,8 +12,7 @@ use Rattle.figures.specs.declared.totals.Totals.{Totals}
 use Rattle.layout.specs.Findings.{demanded, account_found}
 use Rattle.layout.specs.Rules.{digits, right_account}
 use Rattle.layout.specs.Rows.{at, first_fault}
-use Rattle.layout.specs.declared.Finding.{Finding}
-use Rattle.layout.specs.declared.Finding.TheVariants.{Sound, Fault}
+use Rattle.layout.specs.declared.Finding.TheVariants.{Sound}
 use Rattle.layout.proofs.Laws.{demands}
 
 judged_by : (none right : Bool) (d : ℕ) → is_number (if none then NoRightDigit else (if right then Right else WrongDigit d)) ≡ true

@@ -1,6 +1,6 @@
 -- Document 01, "Field kinds" and "Refusal numbers": a field's rule is a test of its bytes and the number that refuses it.
 -- Assumes nothing.
-use Rattle.std.specs.Prelude.{ℕ, List, [], ◌∷◌, Bool, true, false, ◌||◌}
+use Rattle.std.specs.Prelude.{ℕ, List, [], ◌∷◌, Bool, false, ◌||◌}
 use Prim.Native.String.{String}
 use Rattle.fields.specs.Bytes.{every, same, text, is_digit, is_zero, is_text}
 use Rattle.fields.specs.Accounts.{account_of, is_right}

@@ -1,8 +1,7 @@
 -- Document 01, "Marked examples": ten claims about the rules themselves, in one table under one statement.
 -- Assumes nothing.
-use Rattle.std.specs.Prelude.{ℕ, zero, suc, ◌+◌, ◌≡◌, refl, List, [], ◌∷◌, ◌++◌, Bool, true, false, not, ◌&&◌, eqb, ltb}
+use Rattle.std.specs.Prelude.{ℕ, zero, suc, ◌≡◌, refl, List, [], ◌∷◌, ◌++◌, Bool, true, false, not, ◌&&◌, eqb, ltb}
 use Prim.Native.String.{String}
-use Rattle.choice.specs.Choice.{if◌then◌else◌}
 use Rattle.fields.specs.Bytes.{every, text}
 use Rattle.fields.specs.Numbers.{number_of, value_from, written}
 use Rattle.fields.specs.Accounts.{account_of, is_right, judged, right_digit, weighted}
@@ -15,7 +14,6 @@ use Rattle.dates.specs.declared.Day.{Day}
 use Rattle.dates.specs.declared.Day.TheVariants.{On, NoDate}
 use Rattle.services.specs.declared.Service.TheVariants.{Autogiro, Remittance}
 use Rattle.dates.specs.declared.Window.{Window}
-use Rattle.dates.specs.declared.ProcessDay.{ProcessDay}
 use Rattle.dates.specs.declared.Opening.{Opening}
 use Rattle.dates.specs.declared.Opening.TheVariants.{Open, NoDay}
 use Rattle.figures.specs.Figures.{amount}

@@ -3,13 +3,12 @@
 use Prim.Native.Nat.{ℕ, ◌+◌, ◌*◌, ◌/◌, ◌%◌, ◌<◌}
 use mathlib.Core.Path.{◌≡◌, refl, ap, sym, ◌∙◌}
 use mathlib.Core.List.{List}
-use mathlib.Core.Bool.{Bool, true, false}
+use mathlib.Core.Bool.{true, false}
 use native.Mathlib.Omega.{arith}
 use lib.ListN.{length}
 use Rattle.dates.specs.Dates.{day_of, day_told, read_day}
 use Rattle.dates.specs.declared.Date.{Date}
-use Rattle.dates.specs.declared.Day.{Day}
-use Rattle.fields.specs.Bytes.{every, is_digit, part, Inside}
+use Rattle.fields.specs.Bytes.{every, is_digit, part}
 use Rattle.fields.specs.Numbers.{value, number_of, pairs_of, paired, Digits, Number, NotDigits, DigitPairs, Pairs, NoPairs}
 use Rattle.fields.proofs.Values.{number_is, number_not, number_yes}
 use Rattle.fields.proofs.Width.{below_at}

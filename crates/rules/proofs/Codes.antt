@@ -6,10 +6,8 @@ use mathlib.Core.List.{List, []}
 use mathlib.Core.Bool.{Bool, true, false}
 use borrow.Author.Tests.{eqb-true, ne_eqb}
 use lib.Dec.{eqb}
-use Rattle.choice.specs.Choice.{if◌then◌else◌}
 use Rattle.rules.specs.Codes.{kind_for}
 use Rattle.rules.specs.Growth.{gain_for, keys_for}
-use Rattle.rules.specs.declared.Kind.{Kind}
 use Rattle.rules.specs.declared.Kind.TheVariants.{R20}
 
 -- what holds of a code, and of every other number, holds of all

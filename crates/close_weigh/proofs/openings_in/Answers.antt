@@ -1,4 +1,3 @@
-use Prim.Native.Nat.{◌-◌}
 use mathlib.Core.Path.{refl}
 use native.Mathlib.Omega.{arith}
 use Rattle.close_weigh.proofs.Counting.{counted_none, counted_next, counted_all, one_at_most}

@@ -17,14 +17,19 @@ use Rattle.record_88_89.proofs.figures_against.Goals as goal
 module _ (r : List ℕ) (t : Totals) where
   abbrev transactions : List Row
   transactions = own transactions_field r t.transactions.0
+
   abbrev records : List Row
   records = own records_field r (t.records.0 + 1)
+
   abbrev sum : List Row
   sum = own sum_field r t.sum.0
+
   abbrev first : List Row
   first = own first_date_field r (ddmmyy t.first)
+
   abbrev behind1 : List Row
   behind1 = records ++ sum ++ first
+
   abbrev behind2 : List Row
   behind2 = sum ++ first
 

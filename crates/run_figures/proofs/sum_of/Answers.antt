@@ -1,6 +1,5 @@
 use Rattle.run_figures.proofs.Adding.{adding_none, added_all, has_room, adding_next}
 use native.Mathlib.Omega.{arith}
-use Prim.Native.Nat.{◌-◌}
 use Rattle.run_figures.proofs.sum_of.Goals as goal
 
 pub loop-j-init : goal.loop-j-init
