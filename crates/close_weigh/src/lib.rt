@@ -2,8 +2,7 @@
 
 #![tactic(auto)]
 
-ghost use Rattle.std.specs.Prelude.{◌≡◌, ◌/◌, ◌≤◌, length};
-ghost use Rattle.choice.specs.Choice.{if◌then◌else◌};
+ghost use Rattle.std.specs.Prelude.{◌≡◌, ◌/◌, ◌≤◌, length, if◌then◌else◌};
 ghost use Rattle.limits.specs.Limits.{record_bytes};
 ghost use Rattle.operations.specs.Closing.{opens, openings, closed_figures, weigh};
 ghost use Rattle.rules.specs.Run.{records_of};

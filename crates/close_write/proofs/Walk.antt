@@ -10,7 +10,7 @@ use borrow.Author.Tests.{eqb-true, lt-ltb, ltb-true, ltb-false}
 use lib.Dec.{eqb, ltb}
 use lib.ListN.{length, take, drop}
 use lib.Seq.{drop-drop}
-use Rattle.choice.specs.Choice.{if◌then◌else◌}
+use Rattle.std.specs.Prelude.{if◌then◌else◌}
 use Rattle.services.specs.declared.Service.{Service}
 use Rattle.figures.specs.Totals.{◌⊕◌, one_record, one_assignment, ◌⊞◌, undated, dated}
 use Rattle.figures.specs.declared.totals.Totals.{Totals}

@@ -1,7 +1,6 @@
 -- Document 01, "Closing, joining, parting": one assignment of a sound draft, and what is written for it.
 -- Assumes nothing.
-use Rattle.std.specs.Prelude.{ℕ, ◌+◌, ◌-◌, ◌*◌, ◌/◌, ◌≤◌, ◌<◌, ◌≡◌, List, [], ◌∷◌, ◌++◌, true, eqb, length, drop}
-use Rattle.choice.specs.Choice.{if◌then◌else◌}
+use Rattle.std.specs.Prelude.{ℕ, ◌+◌, ◌-◌, ◌*◌, ◌/◌, ◌≤◌, ◌<◌, ◌≡◌, List, [], ◌∷◌, ◌++◌, true, eqb, length, drop, if◌then◌else◌}
 use Rattle.dates.specs.declared.Window.{Window}
 use Rattle.figures.specs.Totals.{◌⊕◌, one_record, one_assignment, ◌⊞◌, undated, dated}
 use Rattle.figures.specs.declared.totals.Totals.{Totals}

@@ -7,7 +7,7 @@ use native.Mathlib.Nat.{le_trans, min_comm, max_comm, zero-max}
 use native.Mathlib.Omega.{arith}
 use lib.Dec.{ltb, eqb, eqb-suc-zero}
 use borrow.Author.Tests.{leb-true, ltb-true, ltb-false, eq-eqb, ne_eqb}
-use Rattle.choice.specs.Choice.{if◌then◌else◌}
+use Rattle.std.specs.Prelude.{if◌then◌else◌}
 use Rattle.dates.specs.declared.Date.{Date}
 use Rattle.dates.specs.declared.Day.TheVariants.{On, NoDate}
 use Rattle.dates.specs.Dates.{date, days_in, is_date, date_number, day_of, day_told, read_day, ddmmyy, earlier, later}

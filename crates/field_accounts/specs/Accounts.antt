@@ -1,7 +1,6 @@
 -- Document 01, "Field kinds", Account: eleven digits, of which the last follows from the ten before it.
 -- Assumes nothing.
-use Rattle.std.specs.Prelude.{ℕ, ◌+◌, ◌-◌, ◌*◌, ◌%◌, List, [], ◌∷◌, Bool, true, false, eqb, get_or}
-use Rattle.choice.specs.Choice.{if◌then◌else◌}
+use Rattle.std.specs.Prelude.{ℕ, ◌+◌, ◌-◌, ◌*◌, ◌%◌, List, [], ◌∷◌, Bool, true, false, eqb, get_or, if◌then◌else◌}
 use Rattle.field_bytes.specs.Bytes.{every, is_digit}
 use Rattle.field_accounts.specs.declared.Account.{Account}
 use Rattle.field_accounts.specs.declared.Account.TheVariants.{Right, WrongDigit, NoRightDigit, NotDigits}

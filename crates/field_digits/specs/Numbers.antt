@@ -1,7 +1,6 @@
 -- Document 01, "Field kinds", Digits: what number a field of digits writes, and the digits that write a number.
 -- Assumes nothing.
-use Rattle.std.specs.Prelude.{ℕ, zero, suc, ◌+◌, ◌/◌, ◌%◌, ◌^◌, List, [], ◌∷◌}
-use Rattle.choice.specs.Choice.{if◌then◌else◌}
+use Rattle.std.specs.Prelude.{ℕ, zero, suc, ◌+◌, ◌/◌, ◌%◌, ◌^◌, List, [], ◌∷◌, if◌then◌else◌}
 use Rattle.field_bytes.specs.Bytes.{every, is_digit}
 unfoldable pub use Rattle.field_words.specs.Values.{value_from}
 pub use Rattle.field_words.specs.Values.{value}

@@ -10,7 +10,7 @@ use native.Mathlib.Omega.{arith}
 use borrow.Author.Tests.{eqb-true}
 use lib.ListN.{length, get_or, drop, drop_of_length-le}
 use lib.Seq.{drop-cons}
-use Rattle.choice.specs.Choice.{if◌then◌else◌}
+use Rattle.std.specs.Prelude.{if◌then◌else◌}
 use Rattle.field_bytes.specs.Bytes.{every, is_digit, is_blank, is_digit_or_blank}
 use Rattle.field_bytes.proofs.Tests.{and_right}
 use Rattle.field_references.specs.Kids.{at_right, at_left, is_reference}

@@ -1,7 +1,6 @@
 -- Document 01, "Field kinds", KID and Reference: one run of digits at an end of the field, blanks elsewhere.
 -- Assumes nothing.
-use Rattle.std.specs.Prelude.{ℕ, List, [], ◌∷◌, Bool, false, ◌&&◌, ◌||◌}
-use Rattle.choice.specs.Choice.{if◌then◌else◌}
+use Rattle.std.specs.Prelude.{ℕ, List, [], ◌∷◌, Bool, false, ◌&&◌, ◌||◌, if◌then◌else◌}
 use Rattle.field_bytes.specs.Bytes.{every, is_digit, is_blank}
 
 -- blanks, then digits to the end, at least one

@@ -1,7 +1,6 @@
 -- Document 01, "What the program handles" and "What may follow": amounts, counts and transaction numbers, which are never mixed.
 -- Assumes nothing.
-use Rattle.std.specs.Prelude.{ℕ, ◌+◌, ◌<◌, ◌^◌, Bool, leb, ltb, eqb}
-use Rattle.choice.specs.Choice.{if◌then◌else◌}
+use Rattle.std.specs.Prelude.{ℕ, ◌+◌, ◌<◌, ◌^◌, Bool, leb, ltb, eqb, if◌then◌else◌}
 use Rattle.limits.specs.Limits.{most_of_service04, most_of_all}
 use Rattle.figures.specs.declared.amounts.Amount.{Amount}
 use Rattle.figures.specs.declared.counts.Count.{Count}

@@ -19,7 +19,7 @@ use Rattle.figures.specs.declared.totals.Totals.{Totals}
 use Rattle.figures.proofs.Laws.{none-⊕}
 use Rattle.rules.specs.Order.{may_end}
 use Rattle.rules.specs.Growth.{start}
-use Rattle.choice.specs.Choice.{if◌then◌else◌}
+use Rattle.std.specs.Prelude.{if◌then◌else◌}
 use Rattle.limits.specs.Limits.{record_bytes, most_records}
 use Rattle.rules.specs.Run.{records_of, check_of}
 use Rattle.rules.specs.declared.Mode.TheVariants.{File, Draft}

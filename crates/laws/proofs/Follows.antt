@@ -9,7 +9,7 @@ use native.Mathlib.Nat.{add-zero}
 use native.Mathlib.Omega.{arith}
 use borrow.Author.Tests.{lt-ltb, not-true}
 use lib.Dec.{eqb, ltb, lit<}
-use Rattle.choice.specs.Choice.{if◌then◌else◌}
+use Rattle.std.specs.Prelude.{if◌then◌else◌}
 use Rattle.fields.specs.Bytes.{every}
 use Rattle.fields.proofs.Tests.{and_left, and_right, and_both}
 use Rattle.fields.proofs.Every.{every_at}

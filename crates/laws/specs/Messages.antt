@@ -1,7 +1,6 @@
 -- Document 02, No. 2 and No. 3: the rule on places and the limit of a message speak of the 49s of one transaction, in a file or a draft of either service.
 -- Assumes nothing.
-use Rattle.std.specs.Prelude.{ℕ, ◌+◌, ◌⊎◌, ◌≡◌, List, [], ◌∷◌, ◌++◌, true, false, eqb, length}
-use Rattle.choice.specs.Choice.{if◌then◌else◌}
+use Rattle.std.specs.Prelude.{ℕ, ◌+◌, ◌⊎◌, ◌≡◌, List, [], ◌∷◌, ◌++◌, true, false, eqb, length, if◌then◌else◌}
 use Rattle.limits.specs.Limits.{most_in_message}
 use Rattle.rules.specs.Codes.{kind_of, number_of_kind, service_code}
 use Rattle.rules.specs.Fields.{message_of}

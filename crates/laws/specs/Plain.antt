@@ -1,7 +1,6 @@
 -- Demand 2: the reported figures are those of the records, each by a plain definition of its own: counted, summed, the least.
 -- Assumes nothing.
-use Rattle.std.specs.Prelude.{ℕ, ◌+◌, ◌≡◌, List, [], ◌∷◌, eqb, ltb, length}
-use Rattle.choice.specs.Choice.{if◌then◌else◌}
+use Rattle.std.specs.Prelude.{ℕ, ◌+◌, ◌≡◌, List, [], ◌∷◌, eqb, ltb, length, if◌then◌else◌}
 use Rattle.figures.specs.declared.totals.Totals.{Totals}
 use Rattle.rules.specs.Codes.{record_code}
 use Rattle.rules.specs.Payments.{amount_in, date_in}

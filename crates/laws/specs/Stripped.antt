@@ -1,7 +1,6 @@
 -- Demand 2: a file stripped of its ends, which closing puts back.
 -- Assumes nothing.
-use Rattle.std.specs.Prelude.{ℕ, List, [], ◌∷◌, Bool, ◌||◌, eqb}
-use Rattle.choice.specs.Choice.{if◌then◌else◌}
+use Rattle.std.specs.Prelude.{ℕ, List, [], ◌∷◌, Bool, ◌||◌, eqb, if◌then◌else◌}
 use Rattle.rules.specs.Codes.{record_code}
 use Rattle.rules.specs.Run.{records_of}
 use Rattle.operations.specs.Closing.{bytes_of}

@@ -5,7 +5,7 @@ use mathlib.Core.Path.{◌≡◌, refl, sym, ◌∙◌, ap}
 use mathlib.Core.List.{List, [], ◌∷◌}
 use mathlib.Core.Bool.{Bool, true, false}
 use lib.Dec.{eqb}
-use Rattle.choice.specs.Choice.{if◌then◌else◌}
+use Rattle.std.specs.Prelude.{if◌then◌else◌}
 use Rattle.fields.specs.Bytes.{every, is_digit, part}
 use Rattle.fields.specs.Accounts.{Account, Right, WrongDigit, NoRightDigit, NotDigits, judged, right_digit, account_of, is_right, is_number, last_digit, remainder}
 use Rattle.figures.specs.declared.totals.Totals.{Totals}

@@ -1,7 +1,6 @@
 -- Document 01, "Refusal numbers": what is found first counts.
 -- Assumes nothing.
-use Rattle.std.specs.Prelude.{ℕ, Bool}
-use Rattle.choice.specs.Choice.{if◌then◌else◌}
+use Rattle.std.specs.Prelude.{ℕ, Bool, if◌then◌else◌}
 use Rattle.fields.specs.Accounts.{Account, Right, WrongDigit, NoRightDigit, NotDigits}
 use Rattle.layout.specs.declared.Finding.{Finding}
 use Rattle.layout.specs.declared.Finding.TheVariants.{Sound, Fault}

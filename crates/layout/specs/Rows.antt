@@ -1,7 +1,6 @@
 -- Document 01, "Refusal numbers": a record's rules are rows in the stated order, and its fault is that of the first row that does not hold.
 -- Assumes nothing.
-use Rattle.std.specs.Prelude.{ℕ, ◌+◌, ◌≡◌, List, [], ◌∷◌, Bool, true, false, not, ◌||◌, ltb, eqb}
-use Rattle.choice.specs.Choice.{if◌then◌else◌}
+use Rattle.std.specs.Prelude.{ℕ, ◌+◌, ◌≡◌, List, [], ◌∷◌, Bool, true, false, not, ◌||◌, ltb, eqb, if◌then◌else◌}
 use Rattle.limits.specs.Limits.{most_assignments}
 use Rattle.fields.specs.Bytes.{part}
 use Rattle.dates.specs.Dates.{ddmmyy}

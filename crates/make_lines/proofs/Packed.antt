@@ -10,7 +10,7 @@ use borrow.Author.Tests.{leb-true, ltb-true, lt-ltb, le-ltb}
 use lib.Dec.{eqb, leb, ltb}
 use lib.ListN.{length, get_or, get_or-eq_default}
 use lib.Pow.{shr-shr, high, low}
-use Rattle.choice.specs.Choice.{if◌then◌else◌}
+use Rattle.std.specs.Prelude.{if◌then◌else◌}
 use Rattle.field_bytes.proofs.Tests.{and_left, and_right}
 use Rattle.rules.specs.Fields.{message_of, message_by}
 use Rattle.rules.specs.declared.Kind.{Kind}

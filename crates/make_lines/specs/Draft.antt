@@ -1,7 +1,6 @@
 -- What lines of values make: a record for each line that bears one, up to the first that is refused.
 -- Assumes nothing.
-use Rattle.std.specs.Prelude.{ℕ, ◌+◌, ◌-◌, ◌≡◌, List, [], ◌∷◌, ◌++◌, Bool, true, false, ◌&&◌, eqb, leb, length, get_or, drop}
-use Rattle.choice.specs.Choice.{if◌then◌else◌}
+use Rattle.std.specs.Prelude.{ℕ, ◌+◌, ◌-◌, ◌≡◌, List, [], ◌∷◌, ◌++◌, Bool, true, false, ◌&&◌, eqb, leb, length, get_or, drop, if◌then◌else◌}
 use Rattle.limits.specs.Limits.{record_bytes, most_records}
 use Rattle.fields.specs.Bytes.{same, text}
 use Rattle.fields.specs.Numbers.{value}

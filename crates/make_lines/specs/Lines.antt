@@ -1,7 +1,6 @@
 -- Values as a spreadsheet exports them: a line for each record, its values parted by semicolons.
 -- Assumes nothing.
-use Rattle.std.specs.Prelude.{ℕ, zero, suc, ◌+◌, List, [], ◌∷◌, Bool, false, ◌||◌, eqb, ltb, length}
-use Rattle.choice.specs.Choice.{if◌then◌else◌}
+use Rattle.std.specs.Prelude.{ℕ, zero, suc, ◌+◌, List, [], ◌∷◌, Bool, false, ◌||◌, eqb, ltb, length, if◌then◌else◌}
 use Rattle.fields.specs.Bytes.{every, is_digit}
 
 -- up to the first byte b, and behind it; nothing is behind where there is none

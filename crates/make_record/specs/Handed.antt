@@ -1,7 +1,6 @@
 -- What becomes of a record that is put together: a fault of its own rules, 19, or the record over the start of the lent buffer.
 -- Assumes nothing.
-use Rattle.std.specs.Prelude.{ℕ, ◌≡◌, List, leb, length}
-use Rattle.choice.specs.Choice.{if◌then◌else◌}
+use Rattle.std.specs.Prelude.{ℕ, ◌≡◌, List, leb, length, if◌then◌else◌}
 use Rattle.limits.specs.Limits.{record_bytes}
 use Rattle.layout.specs.declared.Finding.{Finding}
 use Rattle.operations.specs.Making.{not_made, on_sound, lent_record}

@@ -1,8 +1,7 @@
 -- Document 02, No. 1, and No. 2 for 41 and 49: a record made from values. Numbers stand right with zeros, texts left with blanks, KIDs and field 7 of a 30 to the right.
 -- Assumes nothing.
-use Rattle.std.specs.Prelude.{ℕ, ◌+◌, ◌-◌, ◌^◌, List, [], ◌∷◌, ◌++◌, Bool, true, leb, ltb, eqb, length, drop}
+use Rattle.std.specs.Prelude.{ℕ, ◌+◌, ◌-◌, ◌^◌, List, [], ◌∷◌, ◌++◌, Bool, true, leb, ltb, eqb, length, drop, if◌then◌else◌}
 use Prim.Native.String.{String}
-use Rattle.choice.specs.Choice.{if◌then◌else◌}
 use Rattle.limits.specs.Limits.{record_bytes}
 use Rattle.fields.specs.Bytes.{text}
 use Rattle.fields.specs.Numbers.{written}

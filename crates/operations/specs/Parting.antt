@@ -1,7 +1,6 @@
 -- Document 01, "Closing, joining, parting": what parting a file answers, and what it writes.
 -- Assumes nothing.
-use Rattle.std.specs.Prelude.{ℕ, ◌+◌, ◌-◌, ◌≡◌, List, [], ◌∷◌, ◌++◌, ◌&&◌, eqb, leb, ltb, length, take, drop}
-use Rattle.choice.specs.Choice.{if◌then◌else◌}
+use Rattle.std.specs.Prelude.{ℕ, ◌+◌, ◌-◌, ◌≡◌, List, [], ◌∷◌, ◌++◌, ◌&&◌, eqb, leb, ltb, length, take, drop, if◌then◌else◌}
 use Rattle.limits.specs.Limits.{record_bytes}
 use Rattle.dates.specs.declared.ProcessDay.{ProcessDay}
 use Rattle.figures.specs.Totals.{◌⊕◌, one_record}

@@ -9,7 +9,7 @@ use borrow.Author.Tests.{le-leb, lt-leb}
 use lib.Dec.{leb}
 use lib.ListN.{length, take, drop, length-append, length-take, length-drop}
 use lib.Seq.{length-take-le, take_all, drop-drop}
-use Rattle.choice.specs.Choice.{if◌then◌else◌}
+use Rattle.std.specs.Prelude.{if◌then◌else◌}
 use Rattle.dates.specs.Dates.{date}
 use Rattle.figures.specs.Totals.{none, ◌⊕◌, one_record, Room}
 use Rattle.figures.specs.declared.totals.Totals.{Totals}

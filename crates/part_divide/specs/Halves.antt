@@ -1,7 +1,6 @@
 -- Document 01, "Closing, joining, parting": a record 10 and assignments after it, parted in two.
 -- Assumes nothing.
-use Rattle.std.specs.Prelude.{ℕ, ◌+◌, ◌-◌, ◌*◌, ◌/◌, ◌≤◌, ◌≡◌, List, ◌&&◌, leb, length, take, drop}
-use Rattle.choice.specs.Choice.{if◌then◌else◌}
+use Rattle.std.specs.Prelude.{ℕ, ◌+◌, ◌-◌, ◌*◌, ◌/◌, ◌≤◌, ◌≡◌, List, ◌&&◌, leb, length, take, drop, if◌then◌else◌}
 use Rattle.limits.specs.Limits.{record_bytes, most_records, most_assignments}
 use Rattle.figures.specs.Totals.{◌⊕◌, one_record}
 use Rattle.operations.specs.Closing.{bytes_of}

@@ -8,7 +8,7 @@ use native.Mathlib.Omega.{arith}
 use borrow.Author.Tests.{leb-true, ltb-true}
 use lib.Dec.{leb, ltb}
 use lib.ListN.{length, take, length-take}
-use Rattle.choice.specs.Choice.{if◌then◌else◌}
+use Rattle.std.specs.Prelude.{if◌then◌else◌}
 use Rattle.fields.proofs.Tests.{and_left, and_right}
 use Rattle.dates.specs.declared.ProcessDay.{ProcessDay}
 use Rattle.figures.specs.declared.totals.Totals.{Totals}

@@ -5,7 +5,7 @@ use mathlib.Core.Path.{◌≡◌, refl, ap, sym}
 use mathlib.Core.Bool.{Bool, true, false, ◌&&◌, ◌||◌, or-false}
 use mathlib.Core.List.{[]}
 use lib.Dec.{ltb, eqb}
-use Rattle.choice.specs.Choice.{if◌then◌else◌}
+use Rattle.std.specs.Prelude.{if◌then◌else◌}
 use Rattle.fields.proofs.Computed.{below, below_at, alike, alike_same}
 use Rattle.layout.specs.Rows.{member}
 use Rattle.rules.specs.Payments.{types_for, is_type}

@@ -1,7 +1,6 @@
 -- Document 01, "Layouts", record 49: a number up to a bound, as lines and columns are.
 -- Assumes nothing.
-use Rattle.std.specs.Prelude.{ℕ, List, Bool, ◌&&◌, leb}
-use Rattle.choice.specs.Choice.{if◌then◌else◌}
+use Rattle.std.specs.Prelude.{ℕ, List, Bool, ◌&&◌, leb, if◌then◌else◌}
 use Rattle.fields.specs.Bytes.{every, is_digit}
 use Rattle.fields.specs.Numbers.{value}
 use Rattle.record_49.specs.declared.Bounded.{Bounded}

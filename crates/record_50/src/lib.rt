@@ -2,9 +2,8 @@
 
 #![tactic(auto)]
 
-ghost use Rattle.std.specs.Prelude.{◌≡◌, true, List, ◌++◌, ℕ, eqb, length};
+ghost use Rattle.std.specs.Prelude.{◌≡◌, true, List, ◌++◌, ℕ, eqb, length, if◌then◌else◌};
 ghost use Rattle.limits.specs.Limits.{record_bytes};
-ghost use Rattle.choice.specs.Choice.{if◌then◌else◌};
 ghost use Rattle.layout.specs.Rows.{first_fault, AllHold};
 ghost use Rattle.fields.specs.Bytes.{part};
 ghost use Rattle.rules.specs.Codes.{service_code};

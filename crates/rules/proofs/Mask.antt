@@ -15,7 +15,7 @@ use lib.Arith.{lt-one}
 use lib.Dec.{eqb, lit<}
 use lib.ListN.{length}
 use lib.Pow.{pow_pos, pow-add, pow-lt, shr_lt, shr-shr}
-use Rattle.choice.specs.Choice.{if◌then◌else◌}
+use Rattle.std.specs.Prelude.{if◌then◌else◌}
 use Rattle.layout.specs.Rows.{member}
 use Rattle.rules.specs.Messages.{taken, with_place, place_of, is_place, places, no_places, clashes, with49, used}
 use Rattle.rules.specs.declared.Places.{Places}

@@ -1,7 +1,6 @@
 -- Document 02, No. 1: a record by itself, as it is made from values. Its own rules are the rows of its table that look at it alone.
 -- Assumes nothing.
-use Rattle.std.specs.Prelude.{ℕ, List, [], ◌∷◌, ◌++◌, eqb}
-use Rattle.choice.specs.Choice.{if◌then◌else◌}
+use Rattle.std.specs.Prelude.{ℕ, List, [], ◌∷◌, ◌++◌, eqb, if◌then◌else◌}
 use Rattle.dates.specs.Dates.{date}
 use Rattle.dates.specs.Windows.{window_from}
 use Rattle.layout.specs.Rows.{Row, alone, row_field}

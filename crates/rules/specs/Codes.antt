@@ -1,7 +1,6 @@
 -- Document 01, "Layouts": the codes in fields 2, 3 and 4 of every record, and the values that the other fields write.
 -- Assumes nothing.
-use Rattle.std.specs.Prelude.{ℕ, ◌+◌, ◌*◌, List, eqb}
-use Rattle.choice.specs.Choice.{if◌then◌else◌}
+use Rattle.std.specs.Prelude.{ℕ, ◌+◌, ◌*◌, List, eqb, if◌then◌else◌}
 use Rattle.fields.specs.Bytes.{part}
 use Rattle.fields.specs.Numbers.{code_of}
 use Rattle.rules.specs.Fields.{number_in, agreement_field, assignment_field}

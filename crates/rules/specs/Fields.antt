@@ -1,7 +1,6 @@
 -- Document 01, "Layouts", and document 02, No. 2: the fields that are read as numbers, and those of a message. The rules take number, first and last position of such a field from here.
 -- Assumes nothing.
-use Rattle.std.specs.Prelude.{ℕ, List, Bool, eqb}
-use Rattle.choice.specs.Choice.{if◌then◌else◌}
+use Rattle.std.specs.Prelude.{ℕ, List, Bool, eqb, if◌then◌else◌}
 use Rattle.fields.specs.Bytes.{part}
 use Rattle.fields.specs.Numbers.{value}
 use Rattle.layout.specs.Rules.{Rule}

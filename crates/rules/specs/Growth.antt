@@ -1,7 +1,6 @@
 -- Document 01, "What may follow": what a record adds to the file, what it makes of the assignment at hand, and the key that it brings.
 -- Assumes nothing.
-use Rattle.std.specs.Prelude.{ℕ, List, [], ◌∷◌, ◌++◌, eqb}
-use Rattle.choice.specs.Choice.{if◌then◌else◌}
+use Rattle.std.specs.Prelude.{ℕ, List, [], ◌∷◌, ◌++◌, eqb, if◌then◌else◌}
 use Rattle.services.specs.declared.Service.{Service}
 use Rattle.services.specs.declared.Service.TheVariants.{Remittance}
 use Rattle.figures.specs.Figures.{amount, transaction_number}

@@ -1,7 +1,6 @@
 -- Document 01, "Layouts" and "Refusal numbers", and document 02, No. 2 and No. 3, for 41 and 49: a table for each record type, a row for each refusal, in the stated order.
 -- Assumes nothing.
-use Rattle.std.specs.Prelude.{ℕ, ◌+◌, List, [], ◌∷◌, ◌++◌, Bool, not, eqb, leb}
-use Rattle.choice.specs.Choice.{if◌then◌else◌}
+use Rattle.std.specs.Prelude.{ℕ, ◌+◌, List, [], ◌∷◌, ◌++◌, Bool, not, eqb, leb, if◌then◌else◌}
 use Rattle.limits.specs.Limits.{most_in_message}
 use Rattle.fields.specs.Bytes.{same}
 use Rattle.dates.specs.Dates.{ddmmyy}

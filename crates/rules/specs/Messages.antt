@@ -1,9 +1,8 @@
 -- Document 01, "What may follow", and document 02, No. 2, for both services: the 42 places of a message are a set, of which each is taken at most once. Document 02, No. 3: a record 49 without a place.
 -- Assumes nothing.
-use Rattle.std.specs.Prelude.{ℕ, ◌+◌, ◌*◌, ◌/◌, ◌%◌, ◌^◌, List, Bool, ◌&&◌, eqb, ltb}
+use Rattle.std.specs.Prelude.{ℕ, ◌+◌, ◌*◌, ◌/◌, ◌%◌, ◌^◌, List, Bool, ◌&&◌, eqb, ltb, if◌then◌else◌}
 use Rattle.std.specs.Int.Bits.{bit_or}
 use Rattle.std.specs.Int.Count.{ones}
-use Rattle.choice.specs.Choice.{if◌then◌else◌}
 use Rattle.rules.specs.Codes.{service_code}
 use Rattle.rules.specs.Fields.{Message, number_in, message_of}
 use Rattle.rules.specs.declared.Places.{Places}

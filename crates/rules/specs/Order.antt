@@ -1,7 +1,6 @@
 -- Document 01, "What may follow", and "Closing, joining, parting" for drafts; document 02, No. 2, for what follows 40, 41 and 49.
 -- Assumes nothing.
-use Rattle.std.specs.Prelude.{ℕ, List, [], ◌∷◌, Bool, eqb}
-use Rattle.choice.specs.Choice.{if◌then◌else◌}
+use Rattle.std.specs.Prelude.{ℕ, List, [], ◌∷◌, Bool, eqb, if◌then◌else◌}
 use Rattle.layout.specs.Rows.{member}
 use Rattle.services.specs.declared.Service.{Service}
 use Rattle.services.specs.declared.Service.TheVariants.{Autogiro, Remittance}

@@ -1,7 +1,6 @@
 -- Document 01, "Layouts", the text under the table: what service and transaction type ask of fields 3, 7, 8 and 9 of a record 30, and of a record 40; document 02, No. 2, of a record 41.
 -- Assumes nothing.
-use Rattle.std.specs.Prelude.{ℕ, List, [], ◌∷◌, Bool, true, false, not, ◌&&◌, ◌||◌, leb, ltb, eqb}
-use Rattle.choice.specs.Choice.{if◌then◌else◌}
+use Rattle.std.specs.Prelude.{ℕ, List, [], ◌∷◌, Bool, true, false, not, ◌&&◌, ◌||◌, leb, ltb, eqb, if◌then◌else◌}
 use Rattle.limits.specs.Limits.{most_of_type04}
 use Rattle.fields.specs.Bytes.{every, is_digit, is_blank, is_text, is_digit_or_blank}
 use Rattle.fields.specs.Numbers.{value, code_of}

@@ -1,7 +1,6 @@
 -- Document 01, "Bytes and days" and "Refusal numbers": the records of a file or a draft in turn, their end, and the answer.
 -- Assumes nothing.
-use Rattle.std.specs.Prelude.{ℕ, zero, suc, ◌+◌, ◌*◌, ◌/◌, ◌%◌, List, [], ◌∷◌, ◌++◌, Bool, true, not, ◌||◌, leb, eqb, length, take, drop}
-use Rattle.choice.specs.Choice.{if◌then◌else◌}
+use Rattle.std.specs.Prelude.{ℕ, zero, suc, ◌+◌, ◌*◌, ◌/◌, ◌%◌, List, [], ◌∷◌, ◌++◌, Bool, true, not, ◌||◌, leb, eqb, length, take, drop, if◌then◌else◌}
 use Rattle.limits.specs.Limits.{record_bytes, most_records}
 use Rattle.dates.specs.Windows.{window_of}
 use Rattle.dates.specs.declared.ProcessDay.{ProcessDay}

@@ -7,7 +7,7 @@ use mathlib.Core.Bool.{Bool, true, false, ◌||◌}
 use native.Mathlib.Omega.{arith}
 use lib.Dec.{eqb, ltb}
 use lib.ListN.{length}
-use Rattle.choice.specs.Choice.{if◌then◌else◌}
+use Rattle.std.specs.Prelude.{if◌then◌else◌}
 use Rattle.fields.specs.Bytes.{every, part}
 use Rattle.fields.specs.Numbers.{value}
 use Rattle.dates.specs.Dates.{date, read_day, earlier, later}

@@ -1,7 +1,6 @@
 -- The figures of each assignment of an input, in the order in which they come.
 -- Assumes nothing.
-use Rattle.std.specs.Prelude.{ℕ, List, [], ◌∷◌, ◌++◌, eqb}
-use Rattle.choice.specs.Choice.{if◌then◌else◌}
+use Rattle.std.specs.Prelude.{ℕ, List, [], ◌∷◌, ◌++◌, eqb, if◌then◌else◌}
 use Rattle.figures.specs.declared.totals.AssignmentTotals.{AssignmentTotals}
 use Rattle.services.specs.Services.{service_for}
 use Rattle.rules.specs.Codes.{kind_of, number_of_kind, service_code}

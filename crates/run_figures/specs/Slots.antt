@@ -1,7 +1,6 @@
 -- The figures of assignments in lent slots: five numbers for each, one after the other. How they are put there, and how they are read again.
 -- Assumes nothing.
-use Rattle.std.specs.Prelude.{ℕ, zero, suc, ◌+◌, ◌-◌, ◌*◌, ◌≤◌, ◌<◌, ◌≡◌, List, [], ◌∷◌, ◌++◌, leb, length, get_or, take, drop}
-use Rattle.choice.specs.Choice.{if◌then◌else◌}
+use Rattle.std.specs.Prelude.{ℕ, zero, suc, ◌+◌, ◌-◌, ◌*◌, ◌≤◌, ◌<◌, ◌≡◌, List, [], ◌∷◌, ◌++◌, leb, length, get_or, take, drop, if◌then◌else◌}
 use Rattle.dates.specs.Dates.{date}
 use Rattle.figures.specs.Figures.{amount, count, Fits}
 use Rattle.figures.specs.Totals.{none, ◌⊕◌}

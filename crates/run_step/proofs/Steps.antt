@@ -9,7 +9,7 @@ use borrow.Author.Tests.{ltb-true, ne_eqb}
 use lib.Dec.{eqb}
 use lib.ListN.{length, get_or, take}
 use lib.Seq.{drop-cons}
-use Rattle.choice.specs.Choice.{if◌then◌else◌}
+use Rattle.std.specs.Prelude.{if◌then◌else◌}
 use Rattle.limits.specs.Limits.{most_assignments}
 use Rattle.fields.specs.Bytes.{same, part}
 use Rattle.dates.specs.declared.Window.{Window}

@@ -1,7 +1,6 @@
 -- One record taken: the step, and what then stands in the keys and the figures that are lent beside the state.
 -- Assumes nothing.
-use Rattle.std.specs.Prelude.{ℕ, ◌≤◌, ◌≡◌, List, eqb, length, take}
-use Rattle.choice.specs.Choice.{if◌then◌else◌}
+use Rattle.std.specs.Prelude.{ℕ, ◌≤◌, ◌≡◌, List, eqb, length, take, if◌then◌else◌}
 use Rattle.figures.specs.declared.totals.AssignmentTotals.{AssignmentTotals}
 use Rattle.limits.specs.Limits.{record_bytes, most_records, most_assignments}
 use Rattle.rules.specs.Codes.{number_of_kind}

@@ -1,7 +1,6 @@
 -- What the words of a command line ask, as the tool's help page has it: a command, the process day DDMMYY, the number K of assignments.
 -- Assumes nothing.
-use Rattle.std.specs.Prelude.{ℕ, List, ◌&&◌, leb, eqb, length}
-use Rattle.choice.specs.Choice.{if◌then◌else◌}
+use Rattle.std.specs.Prelude.{ℕ, List, ◌&&◌, leb, eqb, length, if◌then◌else◌}
 use Rattle.fields.specs.Bytes.{every, same, is_digit, text}
 use Rattle.fields.specs.Numbers.{value}
 use Rattle.dates.specs.declared.ProcessDay.{ProcessDay}

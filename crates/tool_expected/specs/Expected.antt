@@ -1,7 +1,6 @@
 -- Document 01: what a field refused with 12 or 18 must have, by what the records before it leave.
 -- Assumes nothing.
-use Rattle.std.specs.Prelude.{ℕ, ◌+◌, eqb, leb}
-use Rattle.choice.specs.Choice.{if◌then◌else◌}
+use Rattle.std.specs.Prelude.{ℕ, ◌+◌, eqb, leb, if◌then◌else◌}
 use Rattle.dates.specs.Dates.{ddmmyy}
 use Rattle.figures.specs.declared.totals.Totals.{Totals}
 use Rattle.services.specs.Services.{code_for}

@@ -1,7 +1,6 @@
 -- Document 01, and document 02, No. 2: the fixed values, codes, lines and columns of each record type, for a field refused with 7.
 -- Assumes nothing.
-use Rattle.std.specs.Prelude.{ℕ, ◌-◌, List, [], ◌∷◌, eqb, ltb, get_or}
-use Rattle.choice.specs.Choice.{if◌then◌else◌}
+use Rattle.std.specs.Prelude.{ℕ, ◌-◌, List, [], ◌∷◌, eqb, ltb, get_or, if◌then◌else◌}
 use Rattle.rules.specs.declared.Kind.{Kind}
 use Rattle.rules.specs.declared.Kind.TheVariants.{R10, R20, R30, R31, R40, R41, R49, R50, R88, R89, Other}
 use Rattle.tool_fixed.specs.declared.Choice.TheVariants.{Services, ClaimTypes, RemittanceTypes, SpecificationTypes, Lines, Columns}

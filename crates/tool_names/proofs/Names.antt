@@ -11,7 +11,7 @@ use lib.Dec.{eqb}
 use lib.ListN.{length, get_or, take, drop, length-append, drop_of_length-le}
 use lib.Seq.{take_at, drop-cons}
 use Rattle.tool_names.specs.Names.{IsPrefixLen}
-use Rattle.choice.specs.Choice.{if◌then◌else◌}
+use Rattle.std.specs.Prelude.{if◌then◌else◌}
 use Rattle.fields.specs.Bytes.{is_digit}
 use Rattle.fields.proofs.Tests.{and_both}
 use Rattle.field_texts.proofs.Wrote.{Wrote, at_first, behind, wrote_length}

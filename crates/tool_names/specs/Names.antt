@@ -1,7 +1,6 @@
 -- The names of the files that an output is made by: each stands beside the output, its name being the output's with an ending. And an output's folder.
 -- Assumes nothing.
-use Rattle.std.specs.Prelude.{ℕ, ◌+◌, ◌≡◌, ◌≤◌, List, [], ◌∷◌, ◌++◌, eqb, leb, length, get_or, take}
-use Rattle.choice.specs.Choice.{if◌then◌else◌}
+use Rattle.std.specs.Prelude.{ℕ, ◌+◌, ◌≡◌, ◌≤◌, List, [], ◌∷◌, ◌++◌, eqb, leb, length, get_or, take, if◌then◌else◌}
 
 -- so many bytes stand at the start of these
 abbrev pub IsPrefixLen : ℕ → List ℕ → Type 0

@@ -2,8 +2,7 @@
 
 #![tactic(auto)]
 
-ghost use Rattle.std.specs.Prelude.{◌≡◌, true, ◌+◌, ◌≤◌, ◌<◌, eqb, length, take};
-ghost use Rattle.choice.specs.Choice.{if◌then◌else◌};
+ghost use Rattle.std.specs.Prelude.{◌≡◌, true, ◌+◌, ◌≤◌, ◌<◌, eqb, length, take, if◌then◌else◌};
 ghost use Rattle.fields.specs.Bytes.{every, is_digit, text};
 ghost use Rattle.tool_names.specs.Names.{IsPrefixLen, longer, ending_of, through_slash, folder_of};
 

@@ -6,7 +6,7 @@ use mathlib.Core.List.{List, [], ◌∷◌, ◌++◌}
 use mathlib.Core.Bool.{Bool, true, false, ◌&&◌}
 use lib.Dec.{eqb}
 use Rattle.dates.specs.declared.Window.{Window}
-use Rattle.choice.specs.Choice.{if◌then◌else◌}
+use Rattle.std.specs.Prelude.{if◌then◌else◌}
 use Rattle.layout.specs.Rows.{Row, at, must, file}
 use Rattle.rules.specs.Codes.{service_code}
 use Rattle.rules.specs.Layouts.{table_for, repeats, notification49, message49, notification_by}

@@ -1,7 +1,6 @@
 -- Document 01: what would be right in a refused field, by its refusal number, the record, and what stands before it.
 -- Assumes nothing.
-use Rattle.std.specs.Prelude.{ℕ, List, eqb}
-use Rattle.choice.specs.Choice.{if◌then◌else◌}
+use Rattle.std.specs.Prelude.{ℕ, List, eqb, if◌then◌else◌}
 use Rattle.fields.specs.Accounts.{account_of}
 use Rattle.fields.specs.Bytes.{part}
 use Rattle.field_accounts.specs.declared.Account.{Account}

@@ -3,7 +3,7 @@
 use Prim.Native.Nat.{ℕ}
 use mathlib.Core.Path.{sym, ◌∙◌, ap}
 use lib.Dec.{eqb}
-use Rattle.choice.specs.Choice.{if◌then◌else◌}
+use Rattle.std.specs.Prelude.{if◌then◌else◌}
 use Rattle.figures.specs.Figures.{amount, within, limit_wide}
 use Rattle.layout.specs.Findings.{demanded}
 use Rattle.layout.specs.declared.Finding.TheVariants.{Sound}
