@@ -9,13 +9,16 @@ use borrow.Author.Tests.{le-leb, lt-leb}
 use borrow.Rule.Slice.PartMut.{put_mid}
 use lib.Dec.{eqb}
 use lib.ListN.{length, get_or, take, drop, length-append, drop_of_length-le}
-use lib.Seq.{take_at, drop-cons}
+use lib.Seq.{take_at, drop-cons, length-take-le}
 use Rattle.tool_names.specs.Names.{IsPrefixLen}
 use Rattle.std.specs.Prelude.{if◌then◌else◌}
 use Rattle.fields.specs.Bytes.{is_digit}
 use Rattle.fields.proofs.Tests.{and_both}
 use Rattle.field_texts.proofs.Wrote.{Wrote, at_first, behind, wrote_length}
 use Rattle.tool_names.specs.Names.{longer, through_slash}
+
+pub prefix_len_of_le : (n : ℕ) (xs : List ℕ) → n ≤ length xs → IsPrefixLen n xs
+prefix_len_of_le n xs h = (h, sym (length-take-le n xs h))
 
 pub no_room : (room : ℕ) (name ending : List ℕ) → room < length name + length ending → [] ≡ longer room name ending
 unfolding longer
