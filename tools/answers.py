@@ -3,8 +3,9 @@
 
 usage: python3 tools/answers.py [--names FOLDER] CRATE..        from the top of the repository
 
-For each crate it reads names.json, from FOLDER/CRATE/names.json or /tmp/names-CRATE/names.json; where there is none it runs
-'rt check --generated /tmp/names-CRATE --old-names' in crates/CRATE. It prints 'left: FILE: NAME: why' for what it could not turn.
+For each crate it reads the old and new names of goals from FOLDER/CRATE/names.json (FOLDER is target/names where none is given); where that file is
+missing it lets 'rt check --generated .. --old-names' write it, for which the crates below have to be proved.
+It prints 'left: FILE: NAME: why' for what it could not turn.
 """
 import json
 import os
@@ -736,11 +737,11 @@ def auto(crate_dir):
 
 
 def names_of(crate, given):
-    for p in ([f"{given}/{crate}/names.json"] if given else []) + [f"/tmp/names-{crate}/names.json"]:
-        if os.path.isfile(p):
-            return json.loads(read(p))
-    subprocess.run(["rt", "check", "--generated", f"/tmp/names-{crate}", "--old-names"], cwd=f"crates/{crate}", capture_output=True)
-    p = f"/tmp/names-{crate}/names.json"
+    folder = os.path.abspath(os.path.join(given or "target/names", crate))
+    p = os.path.join(folder, "names.json")
+    if not os.path.isfile(p):
+        os.makedirs(os.path.dirname(folder), exist_ok=True)
+        subprocess.run(["rt", "check", "--generated", folder, "--old-names"], cwd=f"crates/{crate}", capture_output=True)
     return json.loads(read(p)) if os.path.isfile(p) else None
 
 
