@@ -2,34 +2,33 @@
 
 #![tactic(auto)]
 
-use field_digits::Digits;
+use dates::ProcessDay;
+use layout::Reason;
 use limits::RECORD_BYTES;
-use rules::{Refusal, Verdict};
+use program_lines::Answer;
+use rules::Refusal;
 use std::io;
 
 // The line of seven bytes, and after it at most 800 records.
 const MOST: usize = 7 + 800 * RECORD_BYTES;
 
-fn no_day(rt: &impl Print) -> io::Result<()> {
-    program_lines::print_check(rt, Verdict::Refused(Refusal::whole(1)))
+// The day that the first line names, and the file behind it.
+fn day_and_file(all: &[u8]) -> Option<(ProcessDay, &[u8])> {
+    let (line, file) = all.split_at_checked(7)?;
+    if line[6] != b'\n' {
+        return None;
+    }
+    let ddmmyy = field_digits::number(&line[..6])?;
+    Some((program_lines::process_day(ddmmyy), file))
 }
 
 // All that came, as far as it is read.
 fn answer(rt: &impl Print, all: &[u8]) -> io::Result<()> {
-    if all.len() < 7 {
-        return no_day(rt);
+    match day_and_file(all) {
+        None => println!(rt; "{}", Answer(Err(Refusal::whole(Reason::NoProcessDay)))),
+        Some(_) if MOST < all.len() => rt.println("too long"),
+        Some((day, file)) => println!(rt; "{}", Answer(check_file::check(day, file))),
     }
-    if all[6] != 10 {
-        return no_day(rt);
-    }
-    let Digits::Number(ddmmyy) = fields::number_at(all, 1, 6) else {
-        return no_day(rt);
-    };
-    if MOST < all.len() {
-        return rt.write_all(b"too long\n");
-    }
-    let day = program_lines::process_day(ddmmyy);
-    program_lines::print_check(rt, check_file::check(day, &all[7..]))
 }
 
 fn main(rt: HostRuntime) -> io::Result<()> {

@@ -9,23 +9,23 @@ ghost use Rattle.rules.specs.Refusals.{refused};
 ghost use Rattle.rules.specs.Run.{bad_length, judge, check_of};
 ghost use Rattle.run_loop.specs.Left.{Left};
 
-use dates::{Opening, ProcessDay, Window};
+use dates::{ProcessDay, Window};
+use layout::Reason;
 use limits::{MOST_ASSIGNMENTS, MOST_RECORDS, RECORD_BYTES};
 use rules::{Mode, Refusal, Verdict};
 
 // A refusal of the whole input: no record, no field.
-pub fn refuse(number: u8) -> Verdict
-    ensures { result ≡ refused number 0 0 0 }
+pub fn refuse(reason: Reason) -> Verdict
+    ensures { result ≡ refused reason 0 0 0 }
 {
-    Verdict::Refused(Refusal::whole(number))
+    Err(Refusal::whole(reason))
 }
 
 // Nothing at all, or no multiple of 81 bytes.
 pub fn bad_length(bytes: &[u8]) -> bool
     ensures { result ≡ bad_length bytes.now }
 {
-    let len = bytes.len();
-    (len == 0) | (len % RECORD_BYTES != 0)
+    bytes.is_empty() || bytes.len() % RECORD_BYTES != 0
 }
 
 // On a process day that is one: the length, the number of records, then the records in turn. An accepted file leaves its keys, and where there is room its figures.
@@ -34,10 +34,10 @@ pub fn judge(w: Window, file: &[u8], keys: &mut [u64], figures: &mut [u64]) -> V
     ensures { (result ≡ judge w file.now) × Left file.now keys.new figures.new result }
 {
     if bad_length(file) {
-        return refuse(2);
+        return refuse(Reason::BrokenLength);
     }
     if MOST_RECORDS < file.len() / RECORD_BYTES {
-        return refuse(3);
+        return refuse(Reason::TooManyRecords);
     }
     run_loop::run_over(Mode::File, w, file, keys, figures)
 }
@@ -47,9 +47,7 @@ pub fn check_into(day: ProcessDay, file: &[u8], keys: &mut [u64], figures: &mut 
     requires { length keys.old ≡ most_assignments }
     ensures { (result ≡ check_of day file.now) × Left file.now keys.new figures.new result }
 {
-    let Opening::Open(w) = day.window() else {
-        return refuse(1);
-    };
+    let w = day.window().ok_or(Refusal::whole(Reason::NoProcessDay))?;
     judge(w, file, keys, figures)
 }
 
@@ -58,6 +56,5 @@ pub fn check(day: ProcessDay, file: &[u8]) -> Verdict
     ensures { CheckPromise day file.now result }
 {
     let mut keys = [0u64; MOST_ASSIGNMENTS];
-    let mut figures = [0u64; 0];
-    check_into(day, file, &mut keys, &mut figures)
+    check_into(day, file, &mut keys, &mut [])
 }

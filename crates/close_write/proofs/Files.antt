@@ -4,6 +4,7 @@ use Prim.Native.Nat.{ℕ, ◌+◌, ◌-◌, ◌*◌, ◌/◌, ◌≤◌, ◌<◌
 use mathlib.Core.Path.{◌≡◌, refl, sym, ap, ap₂, subst, ◌∙◌}
 use mathlib.Core.List.{List, [], ◌∷◌, ◌++◌, append_assoc, append-nil}
 use mathlib.Core.Bool.{Bool, true, false, ◌&&◌, and-false, or-false, false≢true}
+use native.Mathlib.Nat.{zero-add}
 use native.Mathlib.Omega.{arith}
 use borrow.Author.Tests.{eqb-true, eq-eqb, ne_eqb, ltb-true, ltb-false}
 use borrow.Rule.Slice.PartMut.{put_mid}
@@ -219,12 +220,21 @@ module _ (d : List ℕ) (totals : Totals) (v : Weighed d totals) where
       ∙ ap bytes_of (ten_written r s (records_from 2 d) header k)
       ∙ ap₂ (λ (f : Totals) (x : List (List ℕ)). r ++ bytes_of (behind_end (sofar f) x)) (sym (ten_gained r header)) (sym i)
 
--- ---- the figures that the run left, from the k-th record of the draft on
-pub record Reading (d figures : List ℕ) (j k : ℕ) : Type 0 where
+  -- the record 10 is no assignment's
+  as_many : totals.assignments.0 ≡ (gains (records_from 1 d)).assignments.0
+  unfolding gains
+  as_many =
+      let r = record_at 0 d in
+      let n : (gains (r ∷ records_from 1 d)).assignments.0 ≡ 0 + (gains (records_from 1 d)).assignments.0 = ap (λ (k : Kind). (gain_for k r).assignments.0 + (gains (records_from 1 d)).assignments.0) header in
+      ap (λ (x : Totals). x.assignments.0) v.counted ∙ ap (λ (rs : List (List ℕ)). (gains rs).assignments.0) records_are ∙ n ∙ zero-add _
+
+-- ---- the figures that the run left, from the k-th record of the draft on: those of the j-th of n assignments, and of all after it
+pub record Reading (d figures : List ℕ) (n j k : ℕ) : Type 0 where
   pub held : Holding figures j (figures_from (records_from k d))
   pub small : AllSmall (figures_from (records_from k d))
+  pub left : j + length (figures_from (records_from k d)) ≡ n + 1
 
-pub reading_start : (d : List ℕ) (totals : Totals) (figures : List ℕ) → Weighed d totals → Holding figures 0 (blocks start.assignment (records_of d)) → Reading d figures 1 1
+pub reading_start : (d : List ℕ) (totals : Totals) (figures : List ℕ) → Weighed d totals → Holding figures 0 (blocks start.assignment (records_of d)) → Reading d figures totals.assignments.0 1 1
 reading_start d totals figures v h =
     let r = record_at 0 d in
     let s = record_at 1 d in
@@ -236,13 +246,16 @@ reading_start d totals figures v h =
     ∙ ap (blocks (turn r start.assignment)) n ∙ blocks_open (turn r start.assignment) s (records_from 2 d) k ∙ ap (λ (x : List (List ℕ)). (turn r start.assignment).totals ∷ figures_from x) (sym n) in
     let l : AllListed (s ∷ records_from 2 d) = subst AllListed n (all_listed Draft a.window a.file a.keys a.assignment (records_from 1 d) (λ e. ten_not_other (sym (ap (λ (x : Assignment). x.last) (turned d totals v)) ∙ e)) a.meets) in
     let g = gains_bounded Draft a.window a.file a.keys a.assignment (records_from 1 d) a.small.file.sum (omega (arith, a.small.file.assignments)) (omega (arith, record_count d, ap length (records_are d totals v), v.few)) a.meets in
+    let f = figures_of_lem s (records_from 2 d) k l in
+    let m : length (figures_from (records_from 1 d)) ≡ (gains (records_from 1 d)).assignments.0 = subst (λ (x : List (List ℕ)). length (figures_from x) ≡ (gains x).assignments.0) (sym n) f.many in
     record {
       held = held_next figures 0 _ _ (subst (Holding figures 0) b h);
-      small = subst (λ (x : List (List ℕ)). AllSmall (figures_from x)) (sym n) ((figures_of_lem s (records_from 2 d) k l).small (subst (λ (x : List (List ℕ)). Bounded 200000 (gains x)) n g));
+      small = subst (λ (x : List (List ℕ)). AllSmall (figures_from x)) (sym n) (f.small (subst (λ (x : List (List ℕ)). Bounded 200000 (gains x)) n g));
+      left = omega (arith, m, as_many d totals v);
     }
 
 -- the assignment at hand, as the code comes to it, and those behind it
-module _ (d figures : List ℕ) (j k : ℕ) (v : Reading d figures j k) (e : Ending d k) where
+module _ (d figures : List ℕ) (m j k : ℕ) (v : Reading d figures m j k) (e : Ending d k) where
   now_held : Holding figures j (e.block.own ∷ figures_from (records_from e.next d))
   now_held = subst (Holding figures j) e.block.left v.held
 
@@ -270,8 +283,8 @@ module _ (d figures : List ℕ) (j k : ℕ) (v : Reading d figures j k) (e : End
         let i : e.totals ≡ y = e.block.ended ∙ ap (λ (z : AssignmentTotals). z ⊞ undated one_record) (sym own_is) ∙ sym p in
         subst (λ (n : ℕ). Block d k n y) next_is (subst (Block d k e.next) i e.block)
 
-    pub reading_next : Reading d figures (j + 1) (k + x.totals.records.0)
-    reading_next = subst (Reading d figures (j + 1)) next_is record { held = held_next figures j _ _ now_held; small = now_small.1 }
+    pub reading_next : Reading d figures m (j + 1) (k + x.totals.records.0)
+    reading_next = subst (Reading d figures m (j + 1)) next_is record { held = held_next figures j _ _ now_held; small = now_small.1; left = omega (arith, v.left, ap length e.block.left) }
 
 -- ---- the writing: the file is written up to the k-th record of the draft, and at bytes long so far
 pub record Going (d before out : List ℕ) (at k : ℕ) : Type 0 where
@@ -333,7 +346,7 @@ module _ (d before out : List ℕ) (at k : ℕ) (g : Going d before out at k) wh
   pub at_within : at ≤ length out
   at_within = omega (arith, g.place, g.wrote.room, out_long)
 
-  module _ (h : k < length d / 81) (n : ℕ) (t : AssignmentTotals) (b : Block d k n t) where
+  module _ (n : ℕ) (t : AssignmentTotals) (b : Block d k n t) where
     -- what is written for the assignment, and what is left behind it
     turn_bytes : closed_file d ≡ g.written ++ ((span k n d ++ end_of d k t) ++ bytes_of (behind_end (sofar (gains (chunks n d))) (records_from n d)))
     unfolding bytes_of
@@ -396,6 +409,25 @@ module _ (d before out : List ℕ) (at k : ℕ) (g : Going d before out at k) wh
     going_last last q =
         let w = behind g.written before out (end_record 0 89 totals (date 0)) last at 81 g.wrote g.place (sym (end_length 0 89 totals (date 0))) last_fits q in
         told _ (closed_file d) before _ (length (closed_file d)) w (sym last_bytes) refl
+
+-- ---- how many assignments are left to write
+module _ (d figures before out : List ℕ) (n j at k : ℕ) (g : Going d before out at k) (v : Reading d figures n j k) where
+  pub this_one : j < n + 1 → Ending d k
+  unfolding figures_from
+  this_one h = go (ltb k (length d / 81)) refl
+    where
+      go : (b : Bool) → ltb k (length d / 81) ≡ b → Ending d k
+      go true e = at_hand d before out at k g (ltb-true k (length d / 81) e)
+      go false e =
+          let none : length (figures_from (records_from k d)) ≡ 0 = ap (λ (x : List (List ℕ)). length (figures_from x)) (rest_end d (length d / 81) k (omega (arith, ltb-false k (length d / 81) e, g.most))) in
+          absurd (omega (arith, v.left, none))
+
+  pub none_more : n + 1 ≤ j → length d / 81 ≤ k
+  none_more h = go (ltb k (length d / 81)) refl
+    where
+      go : (b : Bool) → ltb k (length d / 81) ≡ b → length d / 81 ≤ k
+      go true e = absurd (omega (arith, v.left, ap length (at_hand d before out at k g (ltb-true k (length d / 81) e)).block.left))
+      go false e = ltb-false k (length d / 81) e
 
 -- ---- an assignment and its 88, put over the start of a list
 pub assignment_put : (d before copied last : List ℕ) (k n : ℕ) (t : AssignmentTotals) → InDraft d k n → 81 * n - 81 * k + 81 ≤ length before

@@ -15,11 +15,10 @@ ghost use Rattle.close_write.specs.Weighed.{span, end_of, InDraft, Weighed};
 
 use dates::Date;
 use figures::totals::{AssignmentTotals, Totals};
-use limits::RECORD_BYTES;
+use limits::{RECORD_BYTES, Record};
 
 // The code of the service that a sound record 20 names.
-fn service_in(r: &[u8]) -> u64
-    requires { length r.now ≡ record_bytes }
+fn service_in(r: &Record) -> u64
     ensures { result ≡ code_for (service_for (service_code r.now)) }
 {
     services::code_for(services::service_for(fields::code_at(r, 3))) as u64
@@ -39,10 +38,9 @@ fn put_assignment(
     let start = RECORD_BYTES * from;
     let end = RECORD_BYTES * next;
     let service = service_in(rules::record_at(draft, from));
-    let totals = own.totals;
     let size = end - start;
     field_texts::copy_to(out, &draft[start..end]);
-    write_file::put_end(&mut out[size..], service, 88, totals, own.last);
+    write_file::put_end(&mut out[size..], service, 88, own.totals, own.last);
     size + RECORD_BYTES
 }
 
@@ -51,20 +49,14 @@ pub fn write(draft: &[u8], totals: Totals, figures: &[u64], out: &mut [u8])
     requires { Weighed draft.now totals × Holding figures.now 0 (blocks start.assignment (records_of draft.now)) × (length (closed_file draft.now) ≤ length out.old) }
     ensures { out.new ≡ closed_file draft.now ++ drop (length (closed_file draft.now)) out.old }
 {
-    let count = draft.len() / RECORD_BYTES;
     field_texts::copy_to(out, &draft[0..RECORD_BYTES]);
     let mut at = RECORD_BYTES;
     let mut k: usize = 1;
-    let mut j: usize = 1;
-    while k < count {
+    for j in 1..totals.assignments.0 as usize + 1 {
         let own = run_figures::figures_at(figures, j);
-        let its = own.totals;
-        let records = its.records;
-        let next = k + records.0 as usize;
-        let ended = own.with_record();
-        at += put_assignment(&mut out[at..], draft, k, next, ended);
+        let next = k + own.totals.records.0 as usize;
+        at += put_assignment(&mut out[at..], draft, k, next, own.with_record());
         k = next;
-        j += 1;
     }
     write_file::put_end(&mut out[at..], 0, 89, totals, Date(0));
 }

@@ -6,11 +6,10 @@ use mathlib.Core.Bool.{Bool, true, false, ◌&&◌, ◌||◌}
 use native.Mathlib.Nat.{le_trans, min_comm, max_comm, zero-max}
 use native.Mathlib.Omega.{arith}
 use lib.Dec.{ltb, eqb, eqb-suc-zero}
-use borrow.Author.Tests.{leb-true, ltb-true, ltb-false, eq-eqb, ne_eqb}
-use Rattle.std.specs.Prelude.{if◌then◌else◌}
+use borrow.Author.Tests.{leb-true, ltb-true, ltb-false}
+use Rattle.std.specs.Prelude.{if◌then◌else◌, Some, None}
 use Rattle.dates.specs.declared.Date.{Date}
-use Rattle.dates.specs.declared.Day.TheVariants.{On, NoDate}
-use Rattle.dates.specs.Dates.{date, days_in, is_date, date_number, day_of, day_told, read_day, ddmmyy, earlier, later}
+use Rattle.dates.specs.Dates.{date, days_in, is_date, date_number, day_of, read_day, ddmmyy, earlier, later}
 
 -- the bounds of a date's year, month and day
 pub record Parts (y m d : ℕ) : Type 0 where
@@ -55,43 +54,35 @@ parts y m d e =
       day_to = le_trans (leb-true _ _ day.1) (days_most y m);
     }
 
--- what a date tells: none where it is 0, else itself
-module _ (x : Date) where
-  pub none_told : x.0 ≡ 0 → day_told x ≡ NoDate
-  none_told h = ap (λ (t : Bool). if t then NoDate else On x) (eq-eqb x.0 0 h)
-
-  pub date_told : (x.0 ≡ 0 → ⊥) → day_told x ≡ On x
-  date_told h = ap (λ (t : Bool). if t then NoDate else On x) (ne_eqb x.0 0 h)
-
 -- a year, a month and a day that have a date are one, and the date is their number
-pub day_parts : (y m d : ℕ) (e : Date) → day_of y m d ≡ On e → (is_date y m d ≡ true) × (e ≡ date (date_number y m d))
+pub day_parts : (y m d : ℕ) (e : Date) → day_of y m d ≡ Some e → (is_date y m d ≡ true) × (e ≡ date (date_number y m d))
 unfolding day_of
 day_parts y m d e q = go (is_date y m d) refl q
   where
-    go : (b : Bool) → is_date y m d ≡ b → (if b then On (date (date_number y m d)) else NoDate) ≡ On e → (is_date y m d ≡ true) × (e ≡ date (date_number y m d))
+    go : (b : Bool) → is_date y m d ≡ b → (if b then Some (date (date_number y m d)) else None) ≡ Some e → (is_date y m d ≡ true) × (e ≡ date (date_number y m d))
     go true w r = (w, cc)
     go false w r = (cc, cc)
 
 -- the number of a date that day_of gives, with the bounds of its parts
-numbered : (y m d : ℕ) (e : Date) → day_of y m d ≡ On e → (e.0 ≡ date_number y m d) × Parts y m d
+numbered : (y m d : ℕ) (e : Date) → day_of y m d ≡ Some e → (e.0 ≡ date_number y m d) × Parts y m d
 numbered y m d e q = let w = day_parts y m d e q in (ap (λ t. t.0) w.1, parts y m d w.0)
 
 -- a date's number lies in the years 2000 to 2099
-pub day_range : (y m d : ℕ) (e : Date) → day_of y m d ≡ On e → (20000101 ≤ e.0) × (e.0 ≤ 20991231)
+pub day_range : (y m d : ℕ) (e : Date) → day_of y m d ≡ Some e → (20000101 ≤ e.0) × (e.0 ≤ 20991231)
 day_range y m d e q = let w = numbered y m d e q in omega arith
 
 -- of two dates the one of the earlier year has the smaller number
-pub calendar_year : (y₁ m₁ d₁ y₂ m₂ d₂ : ℕ) (e₁ e₂ : Date) → day_of y₁ m₁ d₁ ≡ On e₁ → day_of y₂ m₂ d₂ ≡ On e₂ → y₁ < y₂ → e₁.0 < e₂.0
+pub calendar_year : (y₁ m₁ d₁ y₂ m₂ d₂ : ℕ) (e₁ e₂ : Date) → day_of y₁ m₁ d₁ ≡ Some e₁ → day_of y₂ m₂ d₂ ≡ Some e₂ → y₁ < y₂ → e₁.0 < e₂.0
 calendar_year y₁ m₁ d₁ y₂ m₂ d₂ e₁ e₂ p q lt =
     let v = numbered y₁ m₁ d₁ e₁ p in let w = numbered y₂ m₂ d₂ e₂ q in omega arith
 
 -- in one year the date of the earlier month has the smaller number
-pub calendar_month : (y m₁ d₁ m₂ d₂ : ℕ) (e₁ e₂ : Date) → day_of y m₁ d₁ ≡ On e₁ → day_of y m₂ d₂ ≡ On e₂ → m₁ < m₂ → e₁.0 < e₂.0
+pub calendar_month : (y m₁ d₁ m₂ d₂ : ℕ) (e₁ e₂ : Date) → day_of y m₁ d₁ ≡ Some e₁ → day_of y m₂ d₂ ≡ Some e₂ → m₁ < m₂ → e₁.0 < e₂.0
 calendar_month y m₁ d₁ m₂ d₂ e₁ e₂ p q lt =
     let v = numbered y m₁ d₁ e₁ p in let w = numbered y m₂ d₂ e₂ q in omega arith
 
 -- in one month the date of the earlier day has the smaller number
-pub calendar_day : (y m d₁ d₂ : ℕ) (e₁ e₂ : Date) → day_of y m d₁ ≡ On e₁ → day_of y m d₂ ≡ On e₂ → d₁ < d₂ → e₁.0 < e₂.0
+pub calendar_day : (y m d₁ d₂ : ℕ) (e₁ e₂ : Date) → day_of y m d₁ ≡ Some e₁ → day_of y m d₂ ≡ Some e₂ → d₁ < d₂ → e₁.0 < e₂.0
 calendar_day y m d₁ d₂ e₁ e₂ p q lt =
     let v = numbered y m d₁ e₁ p in let w = numbered y m d₂ e₂ q in omega arith
 
@@ -114,7 +105,7 @@ together : (n : ℕ) → n / 10000 * 10000 + n / 100 % 100 * 100 + (2000 + n % 1
 together n = omega arith
 
 -- a date read and written again is the same number
-pub read_back : (n : ℕ) (d : Date) → read_day n ≡ On d → ddmmyy d ≡ n
+pub read_back : (n : ℕ) (d : Date) → read_day n ≡ Some d → ddmmyy d ≡ n
 unfolding read_day
 read_back n d q =
     let w = day_parts (2000 + n % 100) (n / 100 % 100) (n / 10000) d q in
@@ -122,7 +113,7 @@ read_back n d q =
     ap ddmmyy w.1 ∙ ddmmyy_parts (2000 + n % 100) (n / 100 % 100) (n / 10000) (omega arith) (omega arith) ∙ together n
 
 -- a date's DDMMYY reads as that date
-pub written_day : (n : ℕ) (d : Date) → read_day n ≡ On d → read_day (ddmmyy d) ≡ On d
+pub written_day : (n : ℕ) (d : Date) → read_day n ≡ Some d → read_day (ddmmyy d) ≡ Some d
 written_day n d q = ap read_day (read_back n d q) ∙ q
 
 -- dates of the same number are the same

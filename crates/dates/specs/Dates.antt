@@ -1,9 +1,7 @@
 -- Document 01, "Bytes and days": what is a date, the number that stands for it, and which of two is the earlier.
 -- Assumes nothing.
-use Rattle.std.specs.Prelude.{ℕ, ◌+◌, ◌*◌, ◌/◌, ◌%◌, Bool, ◌&&◌, ◌||◌, leb, ltb, eqb, if◌then◌else◌}
+use Rattle.std.specs.Prelude.{ℕ, ◌+◌, ◌*◌, ◌/◌, ◌%◌, Bool, ◌&&◌, ◌||◌, leb, ltb, eqb, if◌then◌else◌, Option, Some, None}
 use Rattle.dates.specs.declared.Date.{Date}
-use Rattle.dates.specs.declared.Day.{Day}
-use Rattle.dates.specs.declared.Day.TheVariants.{On, NoDate}
 
 abbrev pub date : ℕ → Date
 date n = record { 0 = n }
@@ -23,15 +21,11 @@ abbrev pub date_number : ℕ → ℕ → ℕ → ℕ
 date_number year month day = year * 10000 + month * 100 + day
 
 -- the date of a year, a month and a day, if it is one
-unfoldable pub day_of : ℕ → ℕ → ℕ → Day
-day_of year month day = if is_date year month day then On (date (date_number year month day)) else NoDate
-
--- 0 stands for no date: the day that such a date tells
-abbrev pub day_told : Date → Day
-day_told d = if eqb d.0 0 then NoDate else On d
+unfoldable pub day_of : ℕ → ℕ → ℕ → Option Date
+day_of year month day = if is_date year month day then Some (date (date_number year month day)) else None
 
 -- the date that a number reads as, its digits being DDMMYY; every two-digit year means 2000 to 2099
-unfoldable pub read_day : ℕ → Day
+unfoldable pub read_day : ℕ → Option Date
 read_day n = day_of (2000 + n % 100) (n / 100 % 100) (n / 10000)
 
 -- the number whose digits are a date's DDMMYY

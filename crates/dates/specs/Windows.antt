@@ -1,27 +1,23 @@
 -- Document 01, "Bytes and days": too late and too early, as the process day settles them.
 -- Assumes nothing.
-use Rattle.std.specs.Prelude.{◌+◌, ◌-◌, Bool, not, ◌&&◌, ltb}
+use Rattle.std.specs.Prelude.{◌+◌, ◌-◌, Bool, not, ◌&&◌, ltb, Option, Some, None}
 use Rattle.dates.specs.Dates.{date, day_of}
 use Rattle.dates.specs.declared.Date.{Date}
-use Rattle.dates.specs.declared.Day.{Day}
-use Rattle.dates.specs.declared.Day.TheVariants.{On, NoDate}
 use Rattle.services.specs.declared.Service.{Service}
 use Rattle.services.specs.declared.Service.TheVariants.{Autogiro, Remittance}
 use Rattle.dates.specs.declared.ProcessDay.{ProcessDay}
 use Rattle.dates.specs.declared.Window.{Window}
-use Rattle.dates.specs.declared.Opening.{Opening}
-use Rattle.dates.specs.declared.Opening.TheVariants.{Open, NoDay}
 
 -- a year on at the latest; for service 01 a year back at the earliest, for service 04 no early limit
 abbrev pub window_from : Date → Window
 window_from d = record { latest = date (d.0 + 10000); earliest01 = date (d.0 - 10000); earliest04 = date 0 }
 
-abbrev pub opening : Day → Opening
-opening (On d) = Open (window_from d)
-opening NoDate = NoDay
+abbrev pub opening : Option Date → Option Window
+opening (Some d) = Some (window_from d)
+opening None = None
 
 -- the window of a process day, if that is a date
-unfoldable pub window_of : ProcessDay → Opening
+unfoldable pub window_of : ProcessDay → Option Window
 window_of p = opening (day_of p.year p.month p.day)
 
 abbrev pub earliest : Window → Service → Date

@@ -1,25 +1,19 @@
 // Dates of the years 2000 to 2099, and the window that a process day opens.
 
-#![tactic(auto)]
+#![tactic(auto, unfolding(crate::specs::Dates::days_in, crate::specs::Dates::is_date, crate::specs::Dates::day_of, crate::specs::Dates::read_day, crate::specs::Dates::ddmmyy, crate::specs::Dates::earlier, crate::specs::Dates::later, crate::specs::Windows::window_of, crate::specs::Windows::in_time, crate::specs::Windows::too_late, crate::specs::Windows::too_early))]
 
 ghost use Rattle.std.specs.Prelude.{◌≡◌, ◌||◌, eqb};
-ghost use Rattle.dates.specs.Dates.{days_in, is_date, day_of, day_told, read_day, ddmmyy, earlier, later};
+ghost use Rattle.dates.specs.Dates.{days_in, is_date, day_of, read_day, ddmmyy, earlier, later};
 ghost use Rattle.dates.specs.Windows.{window_of, earliest, in_time};
 
 use services::Service;
 
 // A date's number: year times 10000, month times 100, day. 0 stands for no date yet.
-#[derive(Clone, Copy)]
+#[derive(Clone, Copy, Debug, PartialEq, Eq)]
 pub struct Date(pub u32);
 
-#[derive(Clone, Copy)]
-pub enum Day {
-    On(Date),
-    NoDate,
-}
-
 // The day that the caller processes on, in full: 2025, 10, 1. It may be no date at all.
-#[derive(Clone, Copy)]
+#[derive(Clone, Copy, Debug, PartialEq, Eq)]
 pub struct ProcessDay {
     pub year: u64,
     pub month: u64,
@@ -27,17 +21,11 @@ pub struct ProcessDay {
 }
 
 // All that a rule asks of the process day.
-#[derive(Clone, Copy)]
+#[derive(Clone, Copy, Debug, PartialEq, Eq)]
 pub struct Window {
     pub latest: Date,
     pub earliest01: Date,
     pub earliest04: Date,
-}
-
-#[derive(Clone, Copy)]
-pub enum Opening {
-    Open(Window),
-    NoDay,
 }
 
 // A month of 30 days.
@@ -57,7 +45,7 @@ fn days_in(year: u64, month: u64) -> u64
         }
         return 28;
     }
-    31 - is_short(month) as u64
+    31 - u64::from(is_short(month))
 }
 
 fn is_date(year: u64, month: u64, day: u64) -> bool
@@ -69,35 +57,18 @@ fn is_date(year: u64, month: u64, day: u64) -> bool
         & ((1 <= day) & (day <= days_in(year, month)))
 }
 
-// The date of a year, a month and a day, of any size; 0 where they are none.
-pub fn date_or_none(year: u64, month: u64, day: u64) -> Date
-    ensures { day_told result ≡ day_of year month day }
-{
-    if !is_date(year, month, day) {
-        return Date(0);
-    }
-    Date((year * 10000 + month * 100 + day) as u32)
-}
-
-// The day that a date tells: none where it is 0.
-pub fn day_told(date: Date) -> Day
-    ensures { result ≡ day_told date }
-{
-    if date.0 == 0 {
-        return Day::NoDate;
-    }
-    Day::On(date)
-}
-
 // The date of a year, a month and a day, of any size.
-pub fn day_of(year: u64, month: u64, day: u64) -> Day
+pub fn day_of(year: u64, month: u64, day: u64) -> Option<Date>
     ensures { result ≡ day_of year month day }
 {
-    day_told(date_or_none(year, month, day))
+    if !is_date(year, month, day) {
+        return None;
+    }
+    Some(Date((year * 10000 + month * 100 + day) as u32))
 }
 
 // The date that a number reads as, its digits being DDMMYY.
-pub fn read_day(n: u64) -> Day
+pub fn read_day(n: u64) -> Option<Date>
     ensures { result ≡ read_day n }
 {
     day_of(2000 + n % 100, n / 100 % 100, n / 10000)
@@ -107,7 +78,7 @@ pub fn read_day(n: u64) -> Day
 pub fn ddmmyy_of(d: Date) -> u64
     ensures { result ≡ ddmmyy d }
 {
-    let n = d.0 as u64;
+    let n = u64::from(d.0);
     n % 100 * 10000 + n / 100 % 100 * 100 + n / 10000 % 100
 }
 
@@ -131,16 +102,13 @@ pub fn later_of(a: Date, b: Date) -> Date
 
 impl ProcessDay {
     // The window of the process day, or that it is no date.
-    pub fn window(self) -> Opening
+    pub fn window(self) -> Option<Window>
         ensures { result ≡ window_of self }
     {
-        let Day::On(d) = day_of(self.year, self.month, self.day) else {
-            return Opening::NoDay;
-        };
-        let n = d.0;
-        Opening::Open(Window {
-            latest: Date(n + 10000),
-            earliest01: Date(n - 10000),
+        let day = day_of(self.year, self.month, self.day)?;
+        Some(Window {
+            latest: Date(day.0 + 10000),
+            earliest01: Date(day.0 - 10000),
             earliest04: Date(0),
         })
     }

@@ -1,6 +1,6 @@
 // Accounts: eleven digits, the last of which follows from the ten before it.
 
-#![tactic(auto)]
+#![tactic(auto, unfolding(crate::specs::Accounts::right_digit, crate::specs::Accounts::judged))]
 
 ghost use Rattle.std.specs.Prelude.{◌≡◌, ◌<◌, length};
 ghost use Rattle.field_accounts.specs.Accounts.{weights, right_digit, judged, account_of, is_right};
@@ -8,7 +8,7 @@ ghost use Rattle.field_accounts.specs.OnTheWay.{weighed};
 
 use field_words::eleven_digits;
 
-#[derive(Clone, Copy)]
+#[derive(Clone, Copy, Debug, PartialEq, Eq)]
 pub enum Account {
     Right,
     // Another last digit is right: this one.
@@ -26,7 +26,7 @@ pub fn account_of(s: &[u8]) -> Account
         return Account::NotDigits;
     }
     // 1968 is 48 times the weights: what the bytes have over their digits
-    judge(s[10] - 48, ((weigh(s) - 1968) % 11) as u8)
+    judge(s[10] - b'0', ((weigh(s) - 1968) % 11) as u8)
 }
 
 // The last digit is right: with weight 1 for it the sum of all eleven is a multiple of 11.
@@ -38,7 +38,7 @@ pub fn is_right(s: &[u8]) -> bool
         return false;
     }
     // 2016 is 48 times the weights, the last one's 1 among them
-    (weigh(s) + wide(s[10]) - 2016) % 11 == 0
+    (weigh(s) + u32::from(s[10]) - 2016) % 11 == 0
 }
 
 // The last digit against the remainder of the ten before it.
@@ -66,25 +66,19 @@ fn right_digit(rest: u8) -> u8
     11 - rest
 }
 
-fn wide(b: u8) -> u32
-    ensures { (result ≡ b) × (result < 256) }
-{
-    b as u32
-}
-
 // The first ten bytes by their weights.
 fn weigh(s: &[u8]) -> u32
     requires { length s.now ≡ 11 }
     ensures { result ≡ weighed weights s.now }
 {
-    wide(s[0]) * 5
-        + wide(s[1]) * 4
-        + wide(s[2]) * 3
-        + wide(s[3]) * 2
-        + wide(s[4]) * 7
-        + wide(s[5]) * 6
-        + wide(s[6]) * 5
-        + wide(s[7]) * 4
-        + wide(s[8]) * 3
-        + wide(s[9]) * 2
+    u32::from(s[0]) * 5
+        + u32::from(s[1]) * 4
+        + u32::from(s[2]) * 3
+        + u32::from(s[3]) * 2
+        + u32::from(s[4]) * 7
+        + u32::from(s[5]) * 6
+        + u32::from(s[6]) * 5
+        + u32::from(s[7]) * 4
+        + u32::from(s[8]) * 3
+        + u32::from(s[9]) * 2
 }

@@ -1,7 +1,7 @@
 -- Every byte of a field, and two fields byte by byte: one byte more, none left, and what the whole says of each.
 -- Assumes nothing.
 use Prim.Native.Nat.{ℕ, zero, suc, ◌+◌, ◌≤◌, ◌<◌}
-use mathlib.Core.Path.{◌≡◌, refl, ap₂}
+use mathlib.Core.Path.{◌≡◌, refl, ap, ap₂}
 use mathlib.Core.List.{List, [], ◌∷◌}
 use mathlib.Core.Bool.{Bool, true, ◌&&◌, false≢true}
 use native.Mathlib.Numerals.{add-one}
@@ -11,6 +11,7 @@ use borrow.Author.Tests.{leb-true, le-leb, eqb-true, eq-eqb}
 use lib.Dec.{leb, eqb}
 use lib.ListN.{length, get_or, drop, drop_of_length-le}
 use lib.Seq.{drop-cons}
+use Rattle.std.specs.Str.{bytes_eq}
 use Rattle.field_bytes.specs.Bytes.{every, same, is_digit}
 use Rattle.field_bytes.proofs.Tests.{and_left, and_right, and_both, one_more, none_left}
 
@@ -39,6 +40,14 @@ module _ (s t : List ℕ) (i : ℕ) where
   pub same_end : length s ≤ i → length t ≤ i → same (drop i s) (drop i t) ≡ true
   unfolding same
   same_end h k = rw (drop_of_length-le s h, drop_of_length-le t k)
+
+-- the test of sameness is the library's
+pub same_eq : (s t : List ℕ) → bytes_eq s t ≡ same s t
+unfolding same
+same_eq [] [] = refl
+same_eq [] (b ∷ t) = refl
+same_eq (a ∷ s) [] = refl
+same_eq (a ∷ s) (b ∷ t) = ap (λ (x : Bool). eqb a b && x) (same_eq s t)
 
 -- two fields of two bytes, by their bytes
 pub same_two : (s t : List ℕ) → length s ≡ 2 → length t ≡ 2 → eqb (get_or s 0 0) (get_or t 0 0) && eqb (get_or s 1 0) (get_or t 1 0) ≡ same s t
@@ -69,3 +78,6 @@ digit_high b h = leb-true b 57 (and_right (leb 48 b) (leb b 57) h)
 
 pub digit_is : (b : ℕ) → 48 ≤ b → b ≤ 57 → is_digit b ≡ true
 digit_is b h k = and_both (leb 48 b) (leb b 57) (le-leb 48 b h) (le-leb b 57 k)
+
+pub digit_at : (s : List ℕ) (i : ℕ) → every is_digit s ≡ true → i < length s → (48 ≤ get_or s i 0) × (get_or s i 0 ≤ 57)
+digit_at s i h l = let d = every_at is_digit s i h l in (digit_low (get_or s i 0) d, digit_high (get_or s i 0) d)

@@ -11,18 +11,5 @@ pub fn same_bytes(s: &[u8], t: &[u8]) -> bool
     if s.len() == 2 {
         return (s[0] == t[0]) & (s[1] == t[1]);
     }
-    each_same(s, t)
-}
-
-fn each_same(s: &[u8], t: &[u8]) -> bool
-    requires { length s.now ≡ length t.now }
-    ensures { result ≡ same s.now t.now }
-{
-    let mut ok = true;
-    let mut i = 0;
-    while i < s.len() {
-        ok = ok & (s[i] == t[i]);
-        i += 1;
-    }
-    ok
+    s == t
 }

@@ -1,5 +1,6 @@
 -- The number that digits write: one digit more, none left, and the room that it takes; and a number's digits written from the last.
 -- Assumes nothing.
+use Rattle.std.proofs.Common.{Some, None}
 use Prim.Native.Nat.{ℕ, zero, suc, ◌+◌, ◌-◌, ◌*◌, ◌/◌, ◌%◌, ◌^◌, ◌≤◌, ◌<◌}
 use mathlib.Core.Path.{◌≡◌, refl, ap, ap₂, sym, ◌∙◌}
 use mathlib.Core.List.{List, [], ◌∷◌}
@@ -12,7 +13,6 @@ use lib.ListN.{length, get_or, take, drop, set, drop_of_length-le}
 use lib.Seq.{drop-cons}
 use Rattle.field_bytes.specs.Bytes.{every, is_digit, part}
 use Rattle.field_digits.specs.Numbers.{value_from, value, number_of, code_of, written}
-use Rattle.field_digits.specs.declared.Digits.TheVariants.{Number, NotDigits}
 
 module _ (n : ℕ) (s : List ℕ) (i : ℕ) where
   pub value_next : i < length s → value_from (n * 10 + (get_or s i 0 - 48)) (drop (i + 1) s) ≡ value_from n (drop i s)
@@ -33,26 +33,26 @@ room n i d hn hi hd = lt_of_lt_of_le (grows n i d hn hd) (pow-le-pow_right (lit<
 
 -- what an answer of the reader says of the bytes
 module _ (s : List ℕ) where
-  pub number_yes : every is_digit s ≡ true → number_of s ≡ Number (value s)
+  pub number_yes : every is_digit s ≡ true → number_of s ≡ Some (value s)
   unfolding number_of
   number_yes h = rw h
 
-  pub number_no : every is_digit s ≡ false → number_of s ≡ NotDigits
+  pub number_no : every is_digit s ≡ false → number_of s ≡ None
   unfolding number_of
   number_no h = rw h
 
-  pub number_is : (n : ℕ) → number_of s ≡ Number n → (every is_digit s ≡ true) × (value s ≡ n)
+  pub number_is : (n : ℕ) → number_of s ≡ Some n → (every is_digit s ≡ true) × (value s ≡ n)
   number_is n h = go (every is_digit s) refl
     where
       go : (b : Bool) → every is_digit s ≡ b → (every is_digit s ≡ true) × (value s ≡ n)
-      go true e = let k : Number (value s) ≡ Number n = sym (number_yes e) ∙ h in (e, cc)
-      go false e = let k : NotDigits ≡ Number n = sym (number_no e) ∙ h in (cc, cc)
+      go true e = let k : Some (value s) ≡ Some n = sym (number_yes e) ∙ h in (e, cc)
+      go false e = let k : None ≡ Some n = sym (number_no e) ∙ h in (cc, cc)
 
-  pub number_not : number_of s ≡ NotDigits → every is_digit s ≡ false
+  pub number_not : number_of s ≡ None → every is_digit s ≡ false
   number_not h = go (every is_digit s) refl
     where
       go : (b : Bool) → every is_digit s ≡ b → every is_digit s ≡ false
-      go true e = let k : Number (value s) ≡ NotDigits = sym (number_yes e) ∙ h in cc
+      go true e = let k : Some (value s) ≡ None = sym (number_yes e) ∙ h in cc
       go false e = e
 
 -- the two bytes of a code, and the number that they write
@@ -65,13 +65,16 @@ two_places r from h k =
     ∙ ap (take 2) (drop-cons r i 0 (omega arith) ∙ ap (λ (t : List ℕ). get_or r i 0 ∷ t) (drop-cons r (suc i) 0 (omega arith)))
     ∙ ap (λ (n : ℕ). get_or r i 0 ∷ get_or r n 0 ∷ []) e
 
-pub code_yes : (a b : ℕ) → is_digit a && is_digit b ≡ true → code_of (a ∷ b ∷ []) ≡ (a - 48) * 10 + (b - 48)
-unfolding code_of every value_from
-code_yes a b h = simp (and-true, h) (omega arith)
+-- a code by its two bytes
+module _ (r : List ℕ) (from : ℕ) (h : 1 ≤ from) (k : from + 1 ≤ length r) where
+  pub code_in : is_digit (get_or r (from - 1) 0) && is_digit (get_or r from 0) ≡ true
+      → (get_or r (from - 1) 0 - 48) * 10 + (get_or r from 0 - 48) ≡ code_of (part from (from + 1) r)
+  unfolding code_of every value_from
+  code_in d = rw (two_places r from h k) (simp (and-true, d) (omega arith))
 
-pub code_no : (a b : ℕ) → is_digit a && is_digit b ≡ false → code_of (a ∷ b ∷ []) ≡ 100
-unfolding code_of every
-code_no a b h = simp (and-true, h)
+  pub code_else : is_digit (get_or r (from - 1) 0) && is_digit (get_or r from 0) ≡ false → 100 ≡ code_of (part from (from + 1) r)
+  unfolding code_of every
+  code_else d = rw (two_places r from h k) (simp (and-true, d))
 
 pub written_length : (w n : ℕ) → length (written w n) ≡ w
 unfolding written

@@ -1,5 +1,6 @@
 -- Digit fields of any width, in four facts that are proved once over the width and cited for 6, 7, 8, 9, 11 and 17 places.
 -- Assumes nothing.
+use Rattle.std.proofs.Common.{Option, Some, None, ℕ}
 use Prim.Native.Nat.{ℕ, zero, suc, ◌+◌, ◌-◌, ◌*◌, ◌/◌, ◌%◌, ◌^◌, ◌<◌}
 use mathlib.Core.Path.{◌≡◌, refl, ap, ap₂, sym, ◌∙◌}
 use mathlib.Core.List.{List, [], ◌∷◌, ◌++◌}
@@ -11,8 +12,6 @@ use lib.Dec.{lit<}
 use lib.ListN.{length, length-take, length-drop}
 use Rattle.field_bytes.specs.Bytes.{every, is_digit, part, Inside}
 use Rattle.field_digits.specs.Numbers.{value_from, value, number_of, written}
-use Rattle.field_digits.specs.declared.Digits.{Digits}
-use Rattle.field_digits.specs.declared.Digits.TheVariants.{Number, NotDigits}
 use Rattle.field_bytes.proofs.Tests.{and_left, and_right, and_both}
 use Rattle.field_bytes.proofs.Every.{digit_low, digit_high, digit_is}
 use Rattle.field_digits.proofs.Values.{number_is, number_yes, number_no}
@@ -69,10 +68,10 @@ steps_value a [] t = refl
 steps_value a (b ∷ s) t = steps_value (a * 10 + (b - 48)) s t
 
 -- what was read, and behind it w digits more
-abbrev pub further_by : ℕ → Digits → Digits → Digits
-further_by w (Number a) (Number b) = Number (a * 10 ^ w + b)
-further_by w (Number a) NotDigits = NotDigits
-further_by w NotDigits d = NotDigits
+abbrev pub further_by : ℕ → Option ℕ → Option ℕ → Option ℕ
+further_by w (Some a) (Some b) = Some (a * 10 ^ w + b)
+further_by w (Some a) None = None
+further_by w None d = None
 
 pub in_steps : (s t : List ℕ) → number_of (s ++ t) ≡ further_by (length t) (number_of s) (number_of t)
 in_steps s t = go (every is_digit s) (every is_digit t) refl refl
@@ -83,28 +82,28 @@ in_steps s t = go (every is_digit s) (every is_digit t) refl refl
     go : (p q : Bool) → every is_digit s ≡ p → every is_digit t ≡ q → number_of (s ++ t) ≡ further_by (length t) (number_of s) (number_of t)
     go true true hs ht =
         number_yes (s ++ t) (both true true hs ht)
-        ∙ ap Number (steps_value 0 s t ∙ value_split (value s) t)
+        ∙ ap Some (steps_value 0 s t ∙ value_split (value s) t)
         ∙ sym (ap₂ (further_by (length t)) (number_yes s hs) (number_yes t ht))
     go true false hs ht = number_no (s ++ t) (both true false hs ht) ∙ sym (ap₂ (further_by (length t)) (number_yes s hs) (number_no t ht))
-    go false q hs ht = number_no (s ++ t) (both false q hs ht) ∙ sym (ap (λ (d : Digits). further_by (length t) d (number_of t)) (number_no s hs))
+    go false q hs ht = number_no (s ++ t) (both false q hs ht) ∙ sym (ap (λ (d : Option ℕ). further_by (length t) d (number_of t)) (number_no s hs))
 
 -- the four facts of a field of w places
 pub record DigitField (w : ℕ) : Type 0 where
   -- a number read is below 10 ^ w
-  pub below : (s : List ℕ) (n : ℕ) → length s ≡ w → number_of s ≡ Number n → n < 10 ^ w
+  pub below : (s : List ℕ) (n : ℕ) → length s ≡ w → number_of s ≡ Some n → n < 10 ^ w
   -- a number written reads back
-  pub reads_back : (n : ℕ) → n < 10 ^ w → number_of (written w n) ≡ Number n
+  pub reads_back : (n : ℕ) → n < 10 ^ w → number_of (written w n) ≡ Some n
   -- digits read and written again are the same bytes
-  pub writes_back : (s : List ℕ) (n : ℕ) → length s ≡ w → number_of s ≡ Number n → written w n ≡ s
+  pub writes_back : (s : List ℕ) (n : ℕ) → length s ≡ w → number_of s ≡ Some n → written w n ≡ s
   -- equal numbers are equal bytes
-  pub one_form : (s t : List ℕ) (n : ℕ) → length s ≡ w → length t ≡ w → number_of s ≡ Number n → number_of t ≡ Number n → s ≡ t
+  pub one_form : (s t : List ℕ) (n : ℕ) → length s ≡ w → length t ≡ w → number_of s ≡ Some n → number_of t ≡ Some n → s ≡ t
 
-reads : (w n : ℕ) → n < 10 ^ w → number_of (written w n) ≡ Number n
+reads : (w n : ℕ) → n < 10 ^ w → number_of (written w n) ≡ Some n
 reads w n h =
     number_yes (written w n) (written_digits w n)
-    ∙ ap Number (written_value w 0 n ∙ simp (mod-eq_of_lt h, zero-mul, zero-add))
+    ∙ ap Some (written_value w 0 n ∙ simp (mod-eq_of_lt h, zero-mul, zero-add))
 
-writes : (w : ℕ) (s : List ℕ) (n : ℕ) → length s ≡ w → number_of s ≡ Number n → written w n ≡ s
+writes : (w : ℕ) (s : List ℕ) (n : ℕ) → length s ≡ w → number_of s ≡ Some n → written w n ≡ s
 writes w s n l h =
     let e = number_is s n h in
     ap₂ written (sym l) (sym e.1) ∙ value_written 0 s e.0
@@ -142,5 +141,5 @@ pub part_length : (from to : ℕ) (r : List ℕ) → Inside from to r → length
 part_length from to r h =
     simp (length-take, length-drop) (omega arith)
 
-pub below_at : (from to : ℕ) (r : List ℕ) (n : ℕ) → Inside from to r → number_of (part from to r) ≡ Number n → n < 10 ^ (to + 1 - from)
+pub below_at : (from to : ℕ) (r : List ℕ) (n : ℕ) → Inside from to r → number_of (part from to r) ≡ Some n → n < 10 ^ (to + 1 - from)
 below_at from to r n h e = (digit_field (to + 1 - from)).below (part from to r) n (part_length from to r h) e

@@ -1,22 +1,18 @@
 -- Document 01, "Field kinds", Digits: what number a field of digits writes, and the digits that write a number.
 -- Assumes nothing.
-use Rattle.std.specs.Prelude.{ℕ, zero, suc, ◌+◌, ◌/◌, ◌%◌, ◌^◌, List, [], ◌∷◌, if◌then◌else◌}
+use Rattle.std.specs.Prelude.{ℕ, zero, suc, ◌+◌, ◌/◌, ◌%◌, ◌^◌, List, [], ◌∷◌, if◌then◌else◌, Option, Some, None}
 use Rattle.field_bytes.specs.Bytes.{every, is_digit}
 unfoldable pub use Rattle.field_words.specs.Values.{value_from}
 pub use Rattle.field_words.specs.Values.{value}
 pub use Rattle.field_words.specs.Words.{pairs_of}
-use Rattle.field_digits.specs.declared.Digits.{Digits}
-use Rattle.field_digits.specs.declared.Digits.TheVariants.{Number, NotDigits}
-use Rattle.field_digits.specs.declared.DigitPairs.{DigitPairs}
-use Rattle.field_digits.specs.declared.DigitPairs.TheVariants.{Pairs, NoPairs}
 
-unfoldable pub number_of : List ℕ → Digits
-number_of s = if every is_digit s then Number (value s) else NotDigits
+unfoldable pub number_of : List ℕ → Option ℕ
+number_of s = if every is_digit s then Some (value s) else None
 
 -- what a field writes, its digits two by two
-abbrev pub paired : Digits → DigitPairs
-paired (Number n) = Pairs (pairs_of n)
-paired NotDigits = NoPairs
+abbrev pub paired : Option ℕ → Option ℕ
+paired (Some n) = Some (pairs_of n)
+paired None = None
 
 -- the last w digits of n, the highest first
 unfoldable pub written : ℕ → ℕ → List ℕ

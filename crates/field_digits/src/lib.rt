@@ -1,51 +1,32 @@
 // A field of digits as the number that it writes.
 
-#![tactic(auto)]
+#![tactic(auto, using(crate::proofs::Ahead::zero_before), unfolding(crate::specs::Numbers::number_of))]
 
 ghost use Rattle.std.specs.Prelude.{◌≡◌, true, ◌≤◌, length, drop};
 ghost use Rattle.field_bytes.specs.Bytes.{every, is_digit};
 ghost use Rattle.field_digits.specs.Numbers.{value, number_of, paired};
 ghost use Rattle.field_words.specs.Words.{bytes_of};
 
-use field_bytes::classes::{Class, all_in, in_class};
+use field_bytes::classes::Class;
 use field_words::{
-    all_digits, pairs_in, value_in, wide, word, word_of_last_seven, word_of_last_six, word_of_six,
+    all_digits, pairs_in, value_in, word, word_of_last_seven, word_of_last_six, word_of_six,
 };
 
-#[derive(Clone, Copy)]
-pub enum Digits {
-    Number(u64),
-    NotDigits,
-}
-
-// Six digits two by two: three numbers side by side, of sixteen bits each.
-#[derive(Clone, Copy)]
-pub enum DigitPairs {
-    Pairs(u64),
-    NoPairs,
-}
-
 // Six, eight, nine and seventeen bytes are read by words.
-pub fn number(s: &[u8]) -> Digits
+pub fn number(s: &[u8]) -> Option<u64>
     requires { length s.now ≤ 17 }
     ensures { result ≡ number_of s.now }
 {
-    if s.len() == 8 {
-        return eight(s);
+    match s.len() {
+        8 => eight(s),
+        6 => six(s),
+        9 => nine(s),
+        17 => seventeen(s),
+        _ => by_bytes(s),
     }
-    if s.len() == 6 {
-        return six(s);
-    }
-    if s.len() == 9 {
-        return nine(s);
-    }
-    if s.len() == 17 {
-        return seventeen(s);
-    }
-    by_bytes(s)
 }
 
-fn eight(s: &[u8]) -> Digits
+fn eight(s: &[u8]) -> Option<u64>
     requires { length s.now ≡ 8 }
     ensures { result ≡ number_of s.now }
 {
@@ -53,14 +34,14 @@ fn eight(s: &[u8]) -> Digits
 }
 
 // Seven digits, given with the byte before them: one word has them all.
-pub fn last_seven(s: &[u8]) -> Digits
+pub fn last_seven(s: &[u8]) -> Option<u64>
     requires { length s.now ≡ 8 }
     ensures { result ≡ number_of (drop 1 s.now) }
 {
     number_in(word_of_last_seven(s))
 }
 
-fn six(s: &[u8]) -> Digits
+fn six(s: &[u8]) -> Option<u64>
     requires { length s.now ≡ 6 }
     ensures { result ≡ number_of s.now }
 {
@@ -68,7 +49,7 @@ fn six(s: &[u8]) -> Digits
 }
 
 // Six digits as three numbers of two, in place of the one that they write.
-pub fn pairs(s: &[u8]) -> DigitPairs
+pub fn pairs(s: &[u8]) -> Option<u64>
     requires { length s.now ≡ 6 }
     ensures { result ≡ paired (number_of s.now) }
 {
@@ -76,67 +57,67 @@ pub fn pairs(s: &[u8]) -> DigitPairs
 }
 
 // The same, given with the two bytes before them.
-pub fn last_pairs(s: &[u8]) -> DigitPairs
+pub fn last_pairs(s: &[u8]) -> Option<u64>
     requires { length s.now ≡ 8 }
     ensures { result ≡ paired (number_of (drop 2 s.now)) }
 {
     paired_in(word_of_last_six(s))
 }
 
-fn paired_in(x: u64) -> DigitPairs
+fn paired_in(x: u64) -> Option<u64>
     ensures { result ≡ paired (number_of (bytes_of 8 x)) }
 {
     if !all_digits(x) {
-        return DigitPairs::NoPairs;
+        return None;
     }
-    DigitPairs::Pairs(pairs_in(x))
+    Some(pairs_in(x))
 }
 
 // One digit, and a word.
-fn nine(s: &[u8]) -> Digits
+fn nine(s: &[u8]) -> Option<u64>
     requires { length s.now ≡ 9 }
     ensures { result ≡ number_of s.now }
 {
     let first = s[0];
     let rest = word(&s[1..9]);
-    if !(in_class(Class::Digit, first) & all_digits(rest)) {
-        return Digits::NotDigits;
+    if !(Class::Digit.has(first) & all_digits(rest)) {
+        return None;
     }
-    Digits::Number(wide(first - 48) * 100000000 + value_in(rest))
+    Some(u64::from(first - b'0') * 100000000 + value_in(rest))
 }
 
 // One digit, and two words.
-fn seventeen(s: &[u8]) -> Digits
+fn seventeen(s: &[u8]) -> Option<u64>
     requires { length s.now ≡ 17 }
     ensures { result ≡ number_of s.now }
 {
     let first = s[0];
     let high = word(&s[1..9]);
     let low = word(&s[9..17]);
-    if !(in_class(Class::Digit, first) & all_digits(high) & all_digits(low)) {
-        return Digits::NotDigits;
+    if !(Class::Digit.has(first) & all_digits(high) & all_digits(low)) {
+        return None;
     }
-    Digits::Number((wide(first - 48) * 100000000 + value_in(high)) * 100000000 + value_in(low))
+    Some((u64::from(first - b'0') * 100000000 + value_in(high)) * 100000000 + value_in(low))
 }
 
-fn number_in(x: u64) -> Digits
+fn number_in(x: u64) -> Option<u64>
     ensures { result ≡ number_of (bytes_of 8 x) }
 {
     if !all_digits(x) {
-        return Digits::NotDigits;
+        return None;
     }
-    Digits::Number(value_in(x))
+    Some(value_in(x))
 }
 
 // Digit by digit, for few of them.
-pub fn by_bytes(s: &[u8]) -> Digits
+pub fn by_bytes(s: &[u8]) -> Option<u64>
     requires { length s.now ≤ 17 }
     ensures { result ≡ number_of s.now }
 {
-    if !all_in(Class::Digit, s) {
-        return Digits::NotDigits;
+    if !Class::Digit.has_all(s) {
+        return None;
     }
-    Digits::Number(value_of(s))
+    Some(value_of(s))
 }
 
 // The number that digits write.
@@ -145,10 +126,8 @@ fn value_of(s: &[u8]) -> u64
     ensures { result ≡ value s.now }
 {
     let mut n: u64 = 0;
-    let mut i = 0;
-    while i < s.len() {
-        n = n * 10 + wide(s[i] - 48);
-        i += 1;
+    for b in s {
+        n = n * 10 + u64::from(*b - b'0');
     }
     n
 }

@@ -1,15 +1,14 @@
 -- Neighbours that join, with a digit at the end, are one run of digits at that end and blanks elsewhere; with a blank at the right end they are all blank.
 -- Assumes nothing.
-use Prim.Native.Nat.{ℕ, suc, ◌+◌, ◌-◌, ◌<◌}
+use Prim.Native.Nat.{ℕ, suc, ◌+◌, ◌-◌, ◌≤◌, ◌<◌}
 use mathlib.Core.Path.{◌≡◌, refl, ap, ap₂, sym, ◌∙◌}
 use mathlib.Core.List.{List, [], ◌∷◌}
 use mathlib.Core.Bool.{Bool, true, false, ◌&&◌, ◌||◌, and-true, and-false, and_comm, or-false, or_comm, and-or_distrib_left, false≢true}
-use native.Mathlib.Numerals.{add-one}
 use native.Mathlib.Nat.{not-suc-le-zero}
 use native.Mathlib.Omega.{arith}
 use borrow.Author.Tests.{eqb-true}
-use lib.ListN.{length, get_or, drop, drop_of_length-le}
-use lib.Seq.{drop-cons}
+use lib.ListN.{length, get_or, take, drop, drop_of_length-le}
+use lib.Seq.{drop-cons, take_all}
 use Rattle.std.specs.Prelude.{if◌then◌else◌}
 use Rattle.field_bytes.specs.Bytes.{every, is_digit, is_blank, is_digit_or_blank}
 use Rattle.field_bytes.proofs.Tests.{and_right}
@@ -17,15 +16,18 @@ use Rattle.field_references.specs.Kids.{at_right, at_left, is_reference}
 use Rattle.field_references.specs.OnTheWay.{joins, chain_from, chain}
 use Rattle.field_references.specs.declared.Side.TheVariants.{Left, Right}
 
--- ---- the loop over neighbours
-module _ (f : ℕ → ℕ → Bool) (s : List ℕ) (i : ℕ) where
-  pub chain_next : i + 1 < length s → f (get_or s i 0) (get_or s (i + 1) 0) && chain f (drop (i + 1) s) ≡ chain f (drop i s)
+-- ---- the loop over neighbours, which has come to the one at i
+module _ (f : ℕ → ℕ → Bool) (s : List ℕ) (i : ℕ) (h : 1 ≤ i) where
+  pub chain_next : i < length s → f (get_or s (i - 1) 0) (get_or s i 0) && chain f (drop (i + 1 - 1) s) ≡ chain f (drop (i - 1) s)
   unfolding chain chain_from
-  chain_next h = rw (add-one, drop-cons s i 0 (omega arith), drop-cons s (suc i) 0 (omega arith))
+  chain_next l =
+      let here : i + 1 - 1 ≡ i = omega arith in
+      let k : suc (i - 1) ≡ i = omega arith in
+      rw (here, drop-cons s (i - 1) 0 (omega arith), k, drop-cons s i 0 l)
 
-  pub chain_end : i + 1 ≡ length s → chain f (drop i s) ≡ true
+  pub chain_end : i ≡ length s → chain f (drop (i - 1) s) ≡ true
   unfolding chain chain_from
-  chain_end h = rw (drop-cons s i 0 (omega arith), drop_of_length-le s {i = suc i} (omega arith))
+  chain_end e = rw (drop-cons s (i - 1) 0 (omega arith), drop_of_length-le s {i = suc (i - 1)} (omega arith))
 
 -- ---- what the neighbours say of the whole
 blank_no_digit : (b : ℕ) → is_blank b ≡ true → is_digit b ≡ false
@@ -132,7 +134,7 @@ unfolding chain
 left_is [] h = absurd (not-suc-le-zero h)
 left_is (a ∷ s) h = left_run a s
 
-pub reference_is : (s : List ℕ) → 0 < length s → is_blank (get_or s 0 0) && at_right (drop 1 s) ≡ is_reference s
+pub reference_is : (s : List ℕ) → 0 < length s → is_blank (get_or s 0 0) && at_right (take (length s - 1) (drop 1 s)) ≡ is_reference s
 unfolding is_reference
 reference_is [] h = absurd (not-suc-le-zero h)
-reference_is (a ∷ s) h = refl
+reference_is (a ∷ s) h = ap (λ (r : List ℕ). is_blank a && at_right r) (take_all (length (a ∷ s) - 1) s (omega arith))

@@ -1,16 +1,16 @@
 // KIDs and references: one run of digits at an end of the field, blanks elsewhere.
 
-#![tactic(auto)]
+#![tactic(auto, using(crate::proofs::Runs::right_is, crate::proofs::Runs::left_is, crate::proofs::Runs::blank_or_right_is, crate::proofs::Runs::reference_is), unfolding(crate::specs::Kids::is_kid))]
 
 ghost use Rattle.std.specs.Prelude.{◌≡◌, ◌||◌, ◌<◌, length};
 ghost use Rattle.field_bytes.specs.Bytes.{every, is_blank};
 ghost use Rattle.field_references.specs.Kids.{at_right, at_left, is_kid, is_reference};
 ghost use Rattle.field_references.specs.OnTheWay.{runs_on, joins, chain};
 
-use field_bytes::classes::{Class, in_class};
+use field_bytes::classes::Class;
 
 // The end at which the digits stand.
-#[derive(Clone, Copy)]
+#[derive(Clone, Copy, Debug, PartialEq, Eq)]
 pub enum Side {
     Left,
     Right,
@@ -20,7 +20,7 @@ pub enum Side {
 fn runs_on(outer: u8, inner: u8) -> bool
     ensures { result ≡ runs_on outer inner }
 {
-    (outer == 32) | (in_class(Class::Digit, outer) & in_class(Class::Digit, inner))
+    (outer == b' ') | (Class::Digit.has(outer) & Class::Digit.has(inner))
 }
 
 fn joined(side: Side, a: u8, b: u8) -> bool
@@ -38,10 +38,8 @@ fn runs_to(side: Side, s: &[u8]) -> bool
     ensures { result ≡ chain (joins side) s.now }
 {
     let mut ok = true;
-    let mut i = 0;
-    while i < s.len() - 1 {
-        ok = ok & joined(side, s[i], s[i + 1]);
-        i += 1;
+    for i in 1..s.len() {
+        ok &= joined(side, s[i - 1], s[i]);
     }
     ok
 }
@@ -51,7 +49,7 @@ pub fn kid_right(s: &[u8]) -> bool
     requires { 0 < length s.now }
     ensures { result ≡ at_right s.now }
 {
-    runs_to(Side::Right, s) & in_class(Class::Digit, s[s.len() - 1])
+    runs_to(Side::Right, s) & Class::Digit.has(s[s.len() - 1])
 }
 
 // Blank, or a KID at the right end. One pass tells both: neighbours that join and end in a blank are all blank.
@@ -59,7 +57,7 @@ pub fn blank_or_right(s: &[u8]) -> bool
     requires { 0 < length s.now }
     ensures { result ≡ (every is_blank s.now || at_right s.now) }
 {
-    runs_to(Side::Right, s) & in_class(Class::DigitOrBlank, s[s.len() - 1])
+    runs_to(Side::Right, s) & Class::DigitOrBlank.has(s[s.len() - 1])
 }
 
 // A KID at the left end.
@@ -67,7 +65,7 @@ pub fn kid_left(s: &[u8]) -> bool
     requires { 0 < length s.now }
     ensures { result ≡ at_left s.now }
 {
-    runs_to(Side::Left, s) & in_class(Class::Digit, s[0])
+    runs_to(Side::Left, s) & Class::Digit.has(s[0])
 }
 
 // A KID at either end.
@@ -83,5 +81,5 @@ pub fn reference(s: &[u8]) -> bool
     requires { 1 < length s.now }
     ensures { result ≡ is_reference s.now }
 {
-    (s[0] == 32) & kid_right(&s[1..])
+    (s[0] == b' ') & kid_right(&s[1..])
 }

@@ -1,10 +1,9 @@
 -- Document 02, No. 1: a short text in a wider field, left with blanks behind it, or to the right with blanks before it.
 -- Assumes nothing.
-use Rattle.std.specs.Prelude.{ℕ, zero, suc, ◌-◌, List, [], ◌∷◌, ◌++◌, length}
+use Rattle.std.specs.Prelude.{ℕ, ◌-◌, List, ◌++◌, length, replicate}
 
-unfoldable pub blanks : ℕ → List ℕ
-blanks zero = []
-blanks (suc n) = 32 ∷ blanks n
+abbrev pub blanks : ℕ → List ℕ
+blanks n = replicate n 32
 
 -- in a field of w places
 unfoldable pub to_left : ℕ → List ℕ → List ℕ

@@ -1,13 +1,13 @@
 -- Eight digits in a number: what the three steps make of them, two by two, four by four, and all.
 -- Assumes nothing.
-use Prim.Native.Nat.{ℕ, ◌+◌, ◌-◌, ◌*◌, ◌/◌, ◌%◌, ◌^◌, ◌≤◌, ◌<◌}
+use Prim.Native.Nat.{ℕ, ◌+◌, ◌-◌, ◌*◌, ◌/◌, ◌%◌, ◌^◌, ◌<◌}
 use mathlib.Core.Path.{◌≡◌, ap, ◌∙◌}
 use mathlib.Core.List.{List, [], ◌∷◌}
 use mathlib.Core.Bool.{true}
 use native.Mathlib.Nat.{add-mul, mul_assoc, mul_right_comm, add_assoc, zero-add, lt_of_lt_of_le}
 use native.Mathlib.Omega.{arith}
 use lib.Arith.{digits_lt}
-use lib.Bits.{bit_and, and_block, and_mask, and_le_r}
+use lib.Bits.{bit_and, and_block, and_mask}
 use lib.Dec.{lit<}
 use lib.ListN.{length, get_or}
 use lib.Pow.{pow-add, pow_mono, low, high, ones_lt}
@@ -141,10 +141,3 @@ word_pairs x h = ap twos_of (digits_left 8 x h) ∙ eight_pairs _ _ _ _ _ _ _ _ 
 pub word_value : (x : ℕ) → every is_digit (bytes_of 8 x) ≡ true → all_of (fours_of (twos_of (bit_and x 0x0F0F0F0F0F0F0F0F))) ≡ value (bytes_of 8 x)
 unfolding times bytes_of
 word_value x h = ap (λ (z : ℕ). all_of (fours_of (twos_of z))) (digits_left 8 x h) ∙ eight _ _ _ _ _ _ _ _ h
-
--- the masks leave room for the products
-pub twos_small : (y : ℕ) → twos_of y ≤ 0x00FF00FF00FF00FF
-twos_small y = and_le_r (y * 10 + y / 0x100) 0x00FF00FF00FF00FF
-
-pub fours_small : (p : ℕ) → fours_of p ≤ 0x0000FFFF0000FFFF
-fours_small p = and_le_r (p * 100 + p / 0x10000) 0x0000FFFF0000FFFF

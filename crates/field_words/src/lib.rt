@@ -1,6 +1,6 @@
 // Digits eight at a time: a word is eight bytes as one number, the first byte lowest.
 
-#![tactic(auto)]
+#![tactic(auto, using(crate::proofs::WordBytes::eleven, crate::proofs::WordBytes::word_of_eight, crate::proofs::WordBytes::word_of_six, crate::proofs::WordBytes::last_seven, crate::proofs::WordBytes::last_six, crate::proofs::WordTests::word_test, crate::proofs::WordValues::word_pairs))]
 
 ghost use Rattle.std.specs.Prelude.{◌≡◌, true, ◌∷◌, ◌<◌, ◌≤◌, length, drop};
 ghost use Rattle.std.specs.Int.Bits.{bit_and};
@@ -86,12 +86,8 @@ pub fn half(s: &[u8]) -> u64
     requires { length s.now ≡ 4 }
     ensures { (bytes_of 4 result ≡ s.now) × (result < 0x100000000) }
 {
-    wide(s[0]) + wide(s[1]) * 0x100 + wide(s[2]) * 0x10000 + wide(s[3]) * 0x1000000
-}
-
-// A byte as a wide number.
-pub fn wide(b: u8) -> u64
-    ensures { (result ≡ b) × (result < 256) }
-{
-    b as u64
+    u64::from(s[0])
+        + u64::from(s[1]) * 0x100
+        + u64::from(s[2]) * 0x10000
+        + u64::from(s[3]) * 0x1000000
 }

@@ -4,7 +4,3 @@ pub use Rattle.field_words.specs.Values.{value}
 pub use Rattle.field_digits.specs.Numbers.{pairs_of, paired}
 unfoldable pub use Rattle.field_words.specs.Values.{value_from}
 unfoldable pub use Rattle.field_digits.specs.Numbers.{number_of, written, code_of}
-pub use Rattle.field_digits.specs.declared.Digits.{Digits}
-pub use Rattle.field_digits.specs.declared.Digits.TheVariants.{Number, NotDigits}
-pub use Rattle.field_digits.specs.declared.DigitPairs.{DigitPairs}
-pub use Rattle.field_digits.specs.declared.DigitPairs.TheVariants.{Pairs, NoPairs}

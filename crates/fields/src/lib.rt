@@ -13,10 +13,10 @@ ghost use Rattle.field_references.specs.Kids.{at_right, is_kid, is_reference};
 ghost use Rattle.field_words.specs.Words.{bytes_of};
 
 use field_accounts::Account;
-use field_bytes::classes::{Class, in_class};
-use field_digits::{DigitPairs, Digits};
+use field_bytes::classes::Class;
+use limits::Record;
 
-pub fn number_at(r: &[u8], from: usize, to: usize) -> Digits
+pub fn number_at(r: &[u8], from: usize, to: usize) -> Option<u64>
     requires { Inside from to r.now × (to ≤ from + 16) }
     ensures { result ≡ number_of (part from to r.now) }
 {
@@ -30,7 +30,7 @@ pub fn number_at(r: &[u8], from: usize, to: usize) -> Digits
 }
 
 // A number of few digits, read one by one.
-pub fn few_digits_at(r: &[u8], from: usize, to: usize) -> Digits
+pub fn few_digits_at(r: &[u8], from: usize, to: usize) -> Option<u64>
     requires { Inside from to r.now × (to ≤ from + 16) }
     ensures { result ≡ number_of (part from to r.now) }
 {
@@ -38,7 +38,7 @@ pub fn few_digits_at(r: &[u8], from: usize, to: usize) -> Digits
 }
 
 // Six digits two by two, read with the two bytes before them, as one word, where there are two.
-pub fn pairs_at(r: &[u8], from: usize) -> DigitPairs
+pub fn pairs_at(r: &[u8], from: usize) -> Option<u64>
     requires { Inside from (from + 5) r.now }
     ensures { result ≡ paired (number_of (part from (from + 5) r.now)) }
 {
@@ -55,17 +55,17 @@ pub fn code_at(r: &[u8], from: usize) -> u8
 {
     let tens = r[from - 1];
     let ones = r[from];
-    if !(in_class(Class::Digit, tens) & in_class(Class::Digit, ones)) {
+    if !(Class::Digit.has(tens) & Class::Digit.has(ones)) {
         return 100;
     }
-    (tens - 48) * 10 + (ones - 48)
+    (tens - b'0') * 10 + (ones - b'0')
 }
 
 pub fn all_at(class: Class, r: &[u8], from: usize, to: usize) -> bool
     requires { Inside from to r.now }
     ensures { result ≡ every (in_class class) (part from to r.now) }
 {
-    field_bytes::classes::all_in(class, &r[from - 1..to])
+    class.has_all(&r[from - 1..to])
 }
 
 // Zeros in four to eight positions.
@@ -77,11 +77,11 @@ pub fn few_zeros_at(r: &[u8], from: usize, to: usize) -> bool
 }
 
 // Zeros up to the end of a record: its last byte is the line feed.
-pub fn zeros_from(r: &[u8], from: usize) -> bool
-    requires { (length r.now ≡ record_bytes) × (1 ≤ from) × (from ≤ 80) }
+pub fn zeros_from(r: &Record, from: usize) -> bool
+    requires { (1 ≤ from) × (from ≤ 80) }
     ensures { result ≡ every is_zero (part from 80 r.now) }
 {
-    field_bytes::classes::all_in(Class::Zero, &r[from - 1..r.len() - 1])
+    Class::Zero.has_all(&r[from - 1..r.len() - 1])
 }
 
 pub fn same_at(r: &[u8], from: usize, to: usize, t: &[u8]) -> bool
@@ -148,11 +148,9 @@ pub fn reference_at(r: &[u8], from: usize, to: usize) -> bool
 pub fn put_number(out: &mut [u8], n: u64)
     ensures { out.new ≡ written (length out.old) n }
 {
-    let mut i = out.len();
     let mut rest = n;
-    while 0 < i {
-        i -= 1;
-        out[i] = 48 + (rest % 10) as u8;
-        rest = rest / 10;
+    for i in (0..out.len()).rev() {
+        out[i] = b'0' + (rest % 10) as u8;
+        rest /= 10;
     }
 }

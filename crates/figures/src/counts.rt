@@ -1,14 +1,14 @@
 // Counts of records, transactions and assignments, and the numbers that transactions bear.
 
-ghost use Rattle.std.specs.Prelude.{◌≡◌, ◌+◌, eqb};
+ghost use Rattle.std.specs.Prelude.{◌≡◌, ◌+◌};
 ghost use Rattle.figures.specs.Figures.{follows, Fits};
 ghost use Rattle.figures.specs.Totals.{count_plus};
 
-#[derive(Clone, Copy)]
+#[derive(Clone, Copy, Debug, PartialEq, Eq)]
 pub struct Count(pub u32);
 
 // The number of a transaction; 0 where there is none yet.
-#[derive(Clone, Copy)]
+#[derive(Clone, Copy, Debug, PartialEq, Eq)]
 pub struct TransactionNumber(pub u32);
 
 impl Count {
@@ -32,11 +32,5 @@ impl TransactionNumber {
             return false;
         }
         n.0 - 1 == self.0
-    }
-
-    pub fn equals(self, other: TransactionNumber) -> bool
-        ensures { result ≡ eqb self.0 other.0 }
-    {
-        self.0 == other.0
     }
 }

@@ -6,7 +6,7 @@ ghost use Rattle.figures.specs.Groups.{empty_group, with_specified, with_credite
 
 use super::amounts::Amount;
 
-#[derive(Clone, Copy)]
+#[derive(Clone, Copy, Debug, PartialEq, Eq)]
 pub struct Group {
     pub specified: Amount,
     pub credited: Amount,
@@ -26,11 +26,9 @@ impl Group {
         requires { Fits 64 (self.specified.0 + a.0) }
         ensures { result ≡ with_specified self a }
     {
-        let specified = self.specified;
-        let credited = self.credited;
         Group {
-            specified: specified.plus(a),
-            credited,
+            specified: self.specified.plus(a),
+            ..self
         }
     }
 
@@ -38,11 +36,9 @@ impl Group {
         requires { Fits 64 (self.credited.0 + a.0) }
         ensures { result ≡ with_credited self a }
     {
-        let specified = self.specified;
-        let credited = self.credited;
         Group {
-            specified,
-            credited: credited.plus(a),
+            credited: self.credited.plus(a),
+            ..self
         }
     }
 
@@ -50,11 +46,9 @@ impl Group {
     pub fn gives(self, a: Amount) -> bool
         ensures { result ≡ gives self a }
     {
-        let specified = self.specified;
-        let credited = self.credited;
-        if specified.0 < credited.0 {
+        if self.specified.0 < self.credited.0 {
             return false;
         }
-        specified.0 - credited.0 == a.0
+        self.specified.0 - self.credited.0 == a.0
     }
 }

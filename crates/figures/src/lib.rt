@@ -1,6 +1,6 @@
 // Amounts, counts and transaction numbers, which are never mixed, and the totals that they make up.
 
-#![tactic(auto)]
+#![tactic(auto, unfolding(crate::specs::Figures::within, crate::specs::Figures::follows, crate::specs::Groups::gives))]
 
 pub mod amounts;
 pub mod counts;

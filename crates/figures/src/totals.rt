@@ -8,7 +8,7 @@ use super::amounts::Amount;
 use super::counts::Count;
 use dates::Date;
 
-#[derive(Clone, Copy)]
+#[derive(Clone, Copy, Debug, PartialEq, Eq)]
 pub struct Totals {
     pub assignments: Count,
     pub transactions: Count,
@@ -17,7 +17,7 @@ pub struct Totals {
     pub first: Date,
 }
 
-#[derive(Clone, Copy)]
+#[derive(Clone, Copy, Debug, PartialEq, Eq)]
 pub struct AssignmentTotals {
     pub totals: Totals,
     pub last: Date,
@@ -40,15 +40,11 @@ impl Totals {
         requires { Room self more }
         ensures { result ≡ self ⊕ more }
     {
-        let assignments = self.assignments;
-        let transactions = self.transactions;
-        let records = self.records;
-        let sum = self.sum;
         Totals {
-            assignments: assignments.plus(more.assignments),
-            transactions: transactions.plus(more.transactions),
-            records: records.plus(more.records),
-            sum: sum.plus(more.sum),
+            assignments: self.assignments.plus(more.assignments),
+            transactions: self.transactions.plus(more.transactions),
+            records: self.records.plus(more.records),
+            sum: self.sum.plus(more.sum),
             first: dates::earlier_of(self.first, more.first),
         }
     }
@@ -59,11 +55,8 @@ impl Totals {
         ensures { result ≡ self ⊕ one_record }
     {
         self.plus(Totals {
-            assignments: Count(0),
-            transactions: Count(0),
             records: Count(1),
-            sum: Amount(0),
-            first: Date(0),
+            ..Totals::none()
         })
     }
 
@@ -74,10 +67,8 @@ impl Totals {
     {
         self.plus(Totals {
             assignments: Count(1),
-            transactions: Count(0),
             records: Count(1),
-            sum: Amount(0),
-            first: Date(0),
+            ..Totals::none()
         })
     }
 
@@ -87,11 +78,11 @@ impl Totals {
         ensures { result ≡ self ⊕ one_transaction amount date }
     {
         self.plus(Totals {
-            assignments: Count(0),
             transactions: Count(1),
             records: Count(1),
             sum: amount,
             first: date,
+            ..Totals::none()
         })
     }
 
@@ -100,17 +91,9 @@ impl Totals {
         requires { Fits 32 (self.records.0 + n) }
         ensures { result ≡ with_records n self }
     {
-        let assignments = self.assignments;
-        let transactions = self.transactions;
-        let records = self.records;
-        let sum = self.sum;
-        let first = self.first;
         Totals {
-            assignments,
-            transactions,
-            records: Count(records.0 + n),
-            sum,
-            first,
+            records: Count(self.records.0 + n),
+            ..self
         }
     }
 
@@ -119,17 +102,9 @@ impl Totals {
         requires { n ≤ self.records.0 }
         ensures { result ≡ less_records n self }
     {
-        let assignments = self.assignments;
-        let transactions = self.transactions;
-        let records = self.records;
-        let sum = self.sum;
-        let first = self.first;
         Totals {
-            assignments,
-            transactions,
-            records: Count(records.0 - n),
-            sum,
-            first,
+            records: Count(self.records.0 - n),
+            ..self
         }
     }
 
@@ -183,11 +158,9 @@ impl AssignmentTotals {
         requires { Room self.totals one_record }
         ensures { result ≡ self ⊞ undated one_record }
     {
-        let totals = self.totals;
-        let last = self.last;
         AssignmentTotals {
-            totals: totals.with_record(),
-            last,
+            totals: self.totals.with_record(),
+            ..self
         }
     }
 
@@ -195,11 +168,9 @@ impl AssignmentTotals {
         requires { Room self.totals one_assignment }
         ensures { result ≡ self ⊞ undated one_assignment }
     {
-        let totals = self.totals;
-        let last = self.last;
         AssignmentTotals {
-            totals: totals.with_assignment(),
-            last,
+            totals: self.totals.with_assignment(),
+            ..self
         }
     }
 
@@ -207,11 +178,9 @@ impl AssignmentTotals {
         requires { Room self.totals (one_transaction amount date) }
         ensures { result ≡ self ⊞ dated amount date }
     {
-        let totals = self.totals;
-        let last = self.last;
         AssignmentTotals {
-            totals: totals.with_transaction(amount, date),
-            last: dates::later_of(last, date),
+            totals: self.totals.with_transaction(amount, date),
+            last: dates::later_of(self.last, date),
         }
     }
 }

@@ -2,68 +2,60 @@
 
 #![tactic(auto)]
 
-ghost use Rattle.std.specs.Prelude.{◌≡◌, length, take};
+ghost use Rattle.std.specs.Prelude.{◌≡◌, length, Ok, IfOk};
 ghost use Rattle.limits.specs.Limits.{most_assignments};
-ghost use Rattle.operations.specs.Joining.{weigh_second, weigh_join};
+ghost use Rattle.join_pairs.specs.Pairs.{Judged};
+ghost use Rattle.operations.specs.Joining.{of_operand, weigh_join};
 ghost use Rattle.operations.specs.Promises.{JoinPromise};
-ghost use Rattle.rules.specs.Growth.{all_keys};
-ghost use Rattle.rules.specs.Run.{records_of, judge};
-ghost use Rattle.rules.specs.declared.Verdict.TheVariants.{Accepted};
-ghost use Rattle.join_files.specs.Days.{OnDay};
+ghost use Rattle.rules.specs.Run.{judge};
+ghost use Rattle.join_files.specs.Days.{OnDay, verdict_of};
 
-use dates::{Opening, ProcessDay, Window};
-use figures::totals::Totals;
+use dates::{ProcessDay, Window};
+use join_pairs::Accepted;
+use layout::Reason;
 use limits::{MOST_ASSIGNMENTS, RECORD_BYTES};
 use rules::{Refusal, Verdict};
 
-// The second file, after the first was accepted, then both together. No figures of assignments are wanted: none are lent.
-fn weigh_second(w: Window, first: &[u8], s: Totals, ours: &[u64], second: &[u8]) -> Verdict
-    requires { OnDay w × (judge w first.now ≡ Accepted s) × (length ours.now ≡ most_assignments) × (take s.assignments.0 ours.now ≡ all_keys (records_of first.now)) }
-    ensures { result ≡ weigh_second w first.now s second.now }
+// A file, judged: its refusal names it as the first or the second; where it is accepted, its keys lie in what is lent. No figures of assignments are wanted: none are lent.
+fn judged<'a>(
+    w: Window,
+    operand: u8,
+    file: &'a [u8],
+    slots: &'a mut [u64],
+) -> Result<Accepted<'a>, Refusal>
+    requires { OnDay w × (length slots.old ≡ most_assignments) }
+    ensures told { verdict_of result ≡ of_operand operand (judge w file.now) Ok }
+    ensures known { IfOk result (λ a. (a.file.now ≡ file.now) × Judged file.now a.totals a.keys.now) }
 {
-    let mut theirs = [0u64; MOST_ASSIGNMENTS];
-    let mut figures = [0u64; 0];
-    match check_file::judge(w, second, &mut theirs, &mut figures) {
-        Verdict::Refused(refusal) => Verdict::Refused(refusal.of(2)),
-        Verdict::Accepted(t) => join_pairs::weigh_both(first, second, s, t, ours, &theirs),
-    }
+    let totals = check_file::judge(w, file, slots, &mut []).map_err(|x| x.of(operand))?;
+    let keys = &slots[..totals.assignments.0 as usize];
+    Ok(Accepted { file, totals, keys })
 }
 
 // All that is judged before the output is looked at.
 fn weigh(day: ProcessDay, first: &[u8], second: &[u8]) -> Verdict
     ensures { result ≡ weigh_join day first.now second.now }
 {
-    let Opening::Open(w) = day.window() else {
-        return Verdict::Refused(Refusal::whole(1));
-    };
+    let w = day.window().ok_or(Refusal::whole(Reason::NoProcessDay))?;
     let mut ours = [0u64; MOST_ASSIGNMENTS];
-    let mut figures = [0u64; 0];
-    match check_file::judge(w, first, &mut ours, &mut figures) {
-        Verdict::Refused(refusal) => Verdict::Refused(refusal.of(1)),
-        Verdict::Accepted(s) => weigh_second(w, first, s, &ours, second),
-    }
+    let mut theirs = [0u64; MOST_ASSIGNMENTS];
+    let one = judged(w, 1, first, &mut ours)?;
+    let other = judged(w, 2, second, &mut theirs)?;
+    join_pairs::weigh_both(one, other)
 }
 
 // Accepted with the figures of the file that was written, or refused with no byte changed.
 pub fn join(day: ProcessDay, first: &[u8], second: &[u8], out: &mut [u8]) -> Verdict
     ensures { JoinPromise day first.now second.now out.old result out.new }
 {
-    match weigh(day, first, second) {
-        Verdict::Refused(refusal) => Verdict::Refused(refusal),
-        Verdict::Accepted(t) => {
-            let records = t.records;
-            if out.len() < RECORD_BYTES * records.0 as usize {
-                return Verdict::Refused(Refusal::whole(19));
-            }
-            let first_end = first.len() - RECORD_BYTES;
-            let second_end = second.len() - RECORD_BYTES;
-            write_file::put_file(
-                out,
-                &first[..first_end],
-                &second[RECORD_BYTES..second_end],
-                t,
-            );
-            Verdict::Accepted(t)
-        }
-    }
+    let t = operations::given(out.len(), weigh(day, first, second)?)?;
+    let first_end = first.len() - RECORD_BYTES;
+    let second_end = second.len() - RECORD_BYTES;
+    write_file::put_file(
+        out,
+        &first[..first_end],
+        &second[RECORD_BYTES..second_end],
+        t,
+    );
+    Ok(t)
 }

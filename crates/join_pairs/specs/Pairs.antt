@@ -1,10 +1,10 @@
 -- Document 01, "Closing, joining, parting": what is known of an accepted file that is to be joined.
 -- Assumes nothing.
-use Rattle.std.specs.Prelude.{ℕ, ◌*◌, ◌≤◌, ◌≡◌, List, [], ◌∷◌, true, length, take}
+use Rattle.std.specs.Prelude.{ℕ, ◌*◌, ◌≤◌, ◌≡◌, List, [], ◌∷◌, true, length}
 use Rattle.fields.specs.Bytes.{every, is_digit}
 use Rattle.figures.specs.declared.totals.Totals.{Totals}
 use Rattle.run_growth.specs.Bounds.{Bounded}
-use Rattle.limits.specs.Limits.{record_bytes, most_records, most_assignments}
+use Rattle.limits.specs.Limits.{record_bytes, most_records}
 use Rattle.rules.specs.Codes.{record_code}
 use Rattle.rules.specs.Fields.{bytes_in, agreement_field, assignment_field}
 use Rattle.rules.specs.Growth.{all_keys}
@@ -24,11 +24,9 @@ pub record Countable (t : Totals) : Type 0 where
   pub bounded : Bounded most_records t
   pub ends : 2 ≤ t.records.0
 
--- an accepted file with its figures, and its keys at the start of a list
+-- an accepted file with its figures and its keys
 pub record Judged (b : List ℕ) (t : Totals) (ks : List ℕ) : Type 0 where
   pub countable : Countable t
   pub long : 2 * record_bytes ≤ length b
   pub readable : KeysReadable (records_of b)
-  pub most : t.assignments.0 ≤ most_assignments
-  pub slots : length ks ≡ most_assignments
-  pub keys : take t.assignments.0 ks ≡ all_keys (records_of b)
+  pub keys : ks ≡ all_keys (records_of b)

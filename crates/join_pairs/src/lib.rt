@@ -12,8 +12,17 @@ ghost use Rattle.join_pairs.specs.Pairs.{KeyReadable, KeysReadable, Countable, J
 
 use figures::amounts::Amount;
 use figures::totals::Totals;
-use limits::{MOST_ASSIGNMENTS, MOST_OF_ALL, MOST_RECORDS, RECORD_BYTES};
+use layout::Reason;
+use limits::{MOST_ASSIGNMENTS, MOST_OF_ALL, MOST_RECORDS, Record};
 use rules::{Refusal, Verdict};
+
+// An accepted file, with its figures and the keys of its assignments.
+#[derive(Clone, Copy)]
+pub struct Accepted<'a> {
+    pub file: &'a [u8],
+    pub totals: Totals,
+    pub keys: &'a [u64],
+}
 
 // Field 5 of both records 10.
 fn same_sender(first: &[u8], second: &[u8]) -> bool
@@ -24,42 +33,30 @@ fn same_sender(first: &[u8], second: &[u8]) -> bool
 }
 
 // One of the second file's keys stands among the first's.
-fn any_shared(ours: &[u64], count: usize, theirs: &[u64], others: usize) -> bool
-    requires { (count ≤ length ours.now) × (others ≤ length theirs.now) }
-    ensures { result ≡ shares (take count ours.now) (take others theirs.now) }
+fn any_shared(ours: &[u64], theirs: &[u64]) -> bool
+    ensures { result ≡ shares ours.now theirs.now }
 {
-    let mut found = false;
-    let mut i: usize = 0;
-    while i < others {
-        found = found | record_10_20::seen(ours, count, theirs[i]);
-        i += 1;
-    }
-    found
+    theirs.iter().any(|key| record_10_20::seen(ours, *key))
 }
 
 // A record 20 whose key stands among the first file's.
-fn brings(r: &[u8], ours: &[u64], count: usize) -> bool
-    requires { (length r.now ≡ record_bytes) × (count ≤ length ours.now) × KeyReadable r.now }
-    ensures { result ≡ shares (take count ours.now) (keys r.now) }
+fn brings(r: &Record, ours: &[u64]) -> bool
+    requires { KeyReadable r.now }
+    ensures { result ≡ shares ours.now (keys r.now) }
 {
-    if fields::code_at(r, 7) != 20 {
-        return false;
-    }
-    record_10_20::seen(ours, count, record_10_20::key_of(r))
+    fields::code_at(r, 7) == 20 && record_10_20::seen(ours, record_10_20::key_of(r))
 }
 
 // The number of the first such record, from 1; 0 if there is none.
-fn first_shared(file: &[u8], ours: &[u64], count: usize) -> u64
-    requires { (count ≤ length ours.now) × KeysReadable (records_of file.now) }
-    ensures { result ≡ shared_at 0 (take count ours.now) (records_of file.now) }
+fn first_shared(file: &[u8], ours: &[u64]) -> u64
+    requires { KeysReadable (records_of file.now) }
+    ensures { result ≡ shared_at 0 ours.now (records_of file.now) }
 {
-    let records = file.len() / RECORD_BYTES;
-    let mut k: usize = 0;
-    while k < records {
-        if brings(rules::record_at(file, k), ours, count) {
+    let records = rules::records_of(file);
+    for (k, r) in records.iter().enumerate() {
+        if brings(r, ours) {
             return k as u64 + 1;
         }
-        k += 1;
     }
     0
 }
@@ -78,41 +75,29 @@ fn weigh_limits(s: Totals, t: Totals) -> Verdict
     ensures { result ≡ weigh_limits s t }
 {
     let joined = both(s, t);
-    let records = joined.records;
-    let assignments = joined.assignments;
-    let sum = s.sum;
-    if MOST_RECORDS < records.0 as usize {
-        return Verdict::Refused(Refusal::whole(3));
+    if MOST_RECORDS < joined.records.0 as usize {
+        return Err(Refusal::whole(Reason::TooManyRecords));
     }
-    if MOST_ASSIGNMENTS < assignments.0 as usize {
-        return Verdict::Refused(Refusal::whole(16));
+    if MOST_ASSIGNMENTS < joined.assignments.0 as usize {
+        return Err(Refusal::whole(Reason::TooManyAssignments));
     }
-    if !sum.holds(t.sum, Amount(MOST_OF_ALL)) {
-        return Verdict::Refused(Refusal::whole(13));
+    if !s.sum.holds(t.sum, Amount(MOST_OF_ALL)) {
+        return Err(Refusal::whole(Reason::PastLimit));
     }
-    Verdict::Accepted(joined)
+    Ok(joined)
 }
 
-// Two accepted files, their figures and their keys: 20, 15, then the limits.
-pub fn weigh_both(
-    first: &[u8],
-    second: &[u8],
-    s: Totals,
-    t: Totals,
-    ours: &[u64],
-    theirs: &[u64],
-) -> Verdict
-    requires { Judged first.now s ours.now × Judged second.now t theirs.now }
-    ensures { result ≡ weigh_both (sender first.now) (all_keys (records_of first.now)) s (sender second.now) (records_of second.now) t }
+// Two accepted files: 20, 15, then the limits.
+pub fn weigh_both(first: Accepted, second: Accepted) -> Verdict
+    requires { Judged first.file.now first.totals first.keys.now × Judged second.file.now second.totals second.keys.now }
+    ensures { result ≡ weigh_both (sender first.entry.file.now) (all_keys (records_of first.entry.file.now)) first.entry.totals (sender second.entry.file.now) (records_of second.entry.file.now) second.entry.totals }
 {
-    let count = s.assignments;
-    let others = t.assignments;
-    if !same_sender(first, second) {
-        return Verdict::Refused(Refusal::at(20, 1, 5).of(2));
+    if !same_sender(first.file, second.file) {
+        return Err(Refusal::at(Reason::OtherSender, 1, 5).of(2));
     }
-    if any_shared(ours, count.0 as usize, theirs, others.0 as usize) {
-        let record = first_shared(second, ours, count.0 as usize);
-        return Verdict::Refused(Refusal::at(15, record, 6).of(2));
+    if any_shared(first.keys, second.keys) {
+        let record = first_shared(second.file, first.keys);
+        return Err(Refusal::at(Reason::KeySeen, record, 6).of(2));
     }
-    weigh_limits(s, t)
+    weigh_limits(first.totals, second.totals)
 }

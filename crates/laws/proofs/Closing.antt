@@ -19,13 +19,11 @@ use Rattle.figures.specs.declared.totals.Totals.{Totals}
 use Rattle.figures.proofs.Laws.{none-⊕}
 use Rattle.rules.specs.Order.{may_end}
 use Rattle.rules.specs.Growth.{start}
-use Rattle.std.specs.Prelude.{if◌then◌else◌}
+use Rattle.std.specs.Prelude.{if◌then◌else◌, Ok, Err}
 use Rattle.limits.specs.Limits.{record_bytes, most_records}
 use Rattle.rules.specs.Run.{records_of, check_of}
 use Rattle.rules.specs.declared.Mode.TheVariants.{File, Draft}
 use Rattle.rules.specs.declared.Refusal.{Refusal}
-use Rattle.rules.specs.declared.Verdict.{Verdict}
-use Rattle.rules.specs.declared.Verdict.TheVariants.{Accepted, Refused}
 use Rattle.operations.specs.Closing.{opens, openings, to_write, closed_figures, close_of, with_ends, bytes_of, closed_file, lent_after, closed_bytes}
 use Rattle.laws.specs.Meets.{gains, turns, Meets, Ends, Lawful}
 use Rattle.laws.specs.Plain.{FiguresOf}
@@ -41,6 +39,7 @@ use Rattle.laws.proofs.Closes.{Drafted, Closed, closes, stands_behind}
 use Rattle.laws.proofs.Strips.{Stripped, strips}
 use Rattle.laws.proofs.Weighs.{Closing, closes_so, refusing, refuses_so, sound_and_room, room_and_sound}
 pub use Rattle.laws.proofs.Weighs.{closing}
+use Rattle.rules.specs.Refusals.{Verdict}
 
 -- ---- on records: an accepted draft
 module _ (w : Window) (ds : List (List ℕ)) (meets : Meets Draft w none [] start.assignment ds) (ends : Ends Draft (turns start.assignment ds)) where
@@ -191,13 +190,13 @@ module _ (day : ProcessDay) (b : List ℕ) (t : Totals) (a : Accepting day b t) 
 
 -- ---- THE THEOREMS
 -- what closing writes is accepted, with the figures that closing answers
-pub closed_accepted : (day : ProcessDay) (d : List ℕ) (room : ℕ) (t : Totals) → close_of day d room ≡ Accepted t → check_of day (closed_file d) ≡ Accepted t
+pub closed_accepted : (day : ProcessDay) (d : List ℕ) (room : ℕ) (t : Totals) → close_of day d room ≡ Ok t → check_of day (closed_file d) ≡ Ok t
 closed_accepted day d room t e =
     let c = closing day d room t e in
-    accepts day (closed_file d) (lawful day d room t c) ∙ ap Accepted (put_gains day d room t c)
+    accepts day (closed_file d) (lawful day d room t c) ∙ ap Ok (put_gains day d room t c)
 
 -- it has as many records as they say, and fits into the output
-pub closed_fits : (day : ProcessDay) (d : List ℕ) (room : ℕ) (t : Totals) → close_of day d room ≡ Accepted t
+pub closed_fits : (day : ProcessDay) (d : List ℕ) (room : ℕ) (t : Totals) → close_of day d room ≡ Ok t
     → (length (closed_file d) ≡ record_bytes * t.records.0) × (length (closed_file d) ≤ room)
 closed_fits day d room t e =
     let c = closing day d room t e in
@@ -205,29 +204,29 @@ closed_fits day d room t e =
     (l, omega (arith, l, c.fits))
 
 -- stripped of its ends it is the draft
-pub closed_keeps : (day : ProcessDay) (d : List ℕ) (room : ℕ) (t : Totals) → close_of day d room ≡ Accepted t → stripped (closed_file d) ≡ d
+pub closed_keeps : (day : ProcessDay) (d : List ℕ) (room : ℕ) (t : Totals) → close_of day d room ≡ Ok t → stripped (closed_file d) ≡ d
 closed_keeps day d room t e = put_back day d room t (closing day d room t e)
 
 -- its figures are those of its records
-pub closed_figures_lem : (day : ProcessDay) (d : List ℕ) (room : ℕ) (t : Totals) → close_of day d room ≡ Accepted t → FiguresOf (records_of (closed_file d)) t
+pub closed_figures_lem : (day : ProcessDay) (d : List ℕ) (room : ℕ) (t : Totals) → close_of day d room ≡ Ok t → FiguresOf (records_of (closed_file d)) t
 closed_figures_lem day d room t e = figures_of_records day (closed_file d) t (closed_accepted day d room t e)
 
 -- an accepted file, stripped of its ends, closes with the same figures, and to itself
-pub stripped_closes : (day : ProcessDay) (b : List ℕ) (t : Totals) → check_of day b ≡ Accepted t → (room : ℕ) → length b ≤ room
-    → (close_of day (stripped b) room ≡ Accepted t) × (closed_file (stripped b) ≡ b)
+pub stripped_closes : (day : ProcessDay) (b : List ℕ) (t : Totals) → check_of day b ≡ Ok t → (room : ℕ) → length b ≤ room
+    → (close_of day (stripped b) room ≡ Ok t) × (closed_file (stripped b) ≡ b)
 stripped_closes day b t e room fits =
     let a = accepting day b t e in
     (closes_so day (stripped b) room t (closes_again day b t a room fits), closed_again day b t a)
 
 -- so it is the one accepted file with those records in that order
-pub closed_only : (day : ProcessDay) (b : List ℕ) (t : Totals) (d : List ℕ) → check_of day b ≡ Accepted t → stripped b ≡ d → b ≡ closed_file d
+pub closed_only : (day : ProcessDay) (b : List ℕ) (t : Totals) (d : List ℕ) → check_of day b ≡ Ok t → stripped b ≡ d → b ≡ closed_file d
 closed_only day b t d e s = sym (closed_again day b t (accepting day b t e)) ∙ ap closed_file s
 
 -- a draft closes exactly when there is such a file, and room for it
-pub closes_exactly : (day : ProcessDay) (d : List ℕ) (room : ℕ) → ((t : Totals) × (close_of day d room ≡ Accepted t)) ↔ FileFor day d room
+pub closes_exactly : (day : ProcessDay) (d : List ℕ) (room : ℕ) → ((t : Totals) × (close_of day d room ≡ Ok t)) ↔ FileFor day d room
 closes_exactly day d room = (there, λ v. (v.figures, ap (λ (x : List ℕ). close_of day x room) (sym v.records) ∙ (stripped_closes day v.file v.figures v.accepted room v.fits).0))
   where
-    there : (t : Totals) × (close_of day d room ≡ Accepted t) → FileFor day d room
+    there : (t : Totals) × (close_of day d room ≡ Ok t) → FileFor day d room
     there v =
         record {
           file = closed_file d;
@@ -239,19 +238,19 @@ closes_exactly day d room = (there, λ v. (v.figures, ap (λ (x : List ℕ). clo
 
 -- and exactly when it breaks no rule, and there is room for its records and their ends
 pub draft_closes_exactly : (day : ProcessDay) (d : List ℕ) (room : ℕ)
-    → ((t : Totals) × (close_of day d room ≡ Accepted t)) ↔ (LawfulDraft day d × (record_bytes * to_write (records_of d) ≤ room))
+    → ((t : Totals) × (close_of day d room ≡ Ok t)) ↔ (LawfulDraft day d × (record_bytes * to_write (records_of d) ≤ room))
 draft_closes_exactly day d room = (sound_and_room day d room, room_and_sound day d room)
 
 -- then with these figures exactly when they are those of the written records
 pub closed_with : (day : ProcessDay) (d : List ℕ) (room : ℕ) (t : Totals)
-    → (close_of day d room ≡ Accepted t) ↔ (LawfulDraft day d × (record_bytes * to_write (records_of d) ≤ room) × FiguresOf (records_of (closed_file d)) t)
+    → (close_of day d room ≡ Ok t) ↔ (LawfulDraft day d × (record_bytes * to_write (records_of d) ≤ room) × FiguresOf (records_of (closed_file d)) t)
 closed_with day d room t = (there, back)
   where
-    there : close_of day d room ≡ Accepted t → LawfulDraft day d × (record_bytes * to_write (records_of d) ≤ room) × FiguresOf (records_of (closed_file d)) t
+    there : close_of day d room ≡ Ok t → LawfulDraft day d × (record_bytes * to_write (records_of d) ≤ room) × FiguresOf (records_of (closed_file d)) t
     there e = let v = sound_and_room day d room (t, e) in (v.0, v.1, closed_figures_lem day d room t e)
 
-    back : LawfulDraft day d × (record_bytes * to_write (records_of d) ≤ room) × FiguresOf (records_of (closed_file d)) t → close_of day d room ≡ Accepted t
-    back v = let u = room_and_sound day d room (v.0, v.1) in u.1 ∙ ap Accepted (one_figures _ u.0 t (closed_figures_lem day d room u.0 u.1) v.2)
+    back : LawfulDraft day d × (record_bytes * to_write (records_of d) ≤ room) × FiguresOf (records_of (closed_file d)) t → close_of day d room ≡ Ok t
+    back v = let u = room_and_sound day d room (v.0, v.1) in u.1 ∙ ap Ok (one_figures _ u.0 t (closed_figures_lem day d room u.0 u.1) v.2)
 
 -- the room that is always enough: that of twice the draft and the 89, or that of a file of full size
 few_openings : (rs : List (List ℕ)) → openings rs ≤ length rs
@@ -264,7 +263,7 @@ few_openings (r ∷ rs) = go (opens r) (few_openings rs)
     go false h = omega (arith, h)
 
 pub close_room_enough : (day : ProcessDay) (d : List ℕ) (room : ℕ) → (2 * length d + record_bytes ≤ room) ⊎ (record_bytes * most_records ≤ room) → LawfulDraft day d
-    → (t : Totals) × (close_of day d room ≡ Accepted t)
+    → (t : Totals) × (close_of day d room ≡ Ok t)
 close_room_enough day d room h l = (draft_closes_exactly day d room).1 (l, fits h)
   where
     fits : (2 * length d + record_bytes ≤ room) ⊎ (record_bytes * most_records ≤ room) → record_bytes * to_write (records_of d) ≤ room
@@ -272,23 +271,23 @@ close_room_enough day d room h l = (draft_closes_exactly day d room).1 (l, fits 
     fits (inr p) = omega (arith, p, l.few)
 
 -- a refusal names the first reason in the stated order
-pub close_order : (day : ProcessDay) (d : List ℕ) (room : ℕ) (x : Refusal) → (close_of day d room ≡ Refused x) ↔ CloseRefusing day d room (Refused x)
-close_order day d room x = (refusing day d room x, refuses_so day d room (Refused x))
+pub close_order : (day : ProcessDay) (d : List ℕ) (room : ℕ) (x : Refusal) → (close_of day d room ≡ Err x) ↔ CloseRefusing day d room (Err x)
+close_order day d room x = (refusing day d room x, refuses_so day d room (Err x))
 
 -- ---- the lent output
 -- what is written lies over its start, and the bytes behind it stay
-pub closed_bytes_lem : (day : ProcessDay) (d out : List ℕ) (t : Totals) → close_of day d (length out) ≡ Accepted t
+pub closed_bytes_lem : (day : ProcessDay) (d out : List ℕ) (t : Totals) → close_of day d (length out) ≡ Ok t
     → closed_bytes day d out ≡ closed_file d ++ drop (length (closed_file d)) out
 unfolding closed_bytes lent_after
 closed_bytes_lem day d out t e = ap (λ (v : Verdict). lent_after v (closed_file d) out) e
 
 -- a refusal changes nothing
-pub closed_refused : (day : ProcessDay) (d out : List ℕ) (x : Refusal) → close_of day d (length out) ≡ Refused x → closed_bytes day d out ≡ out
+pub closed_refused : (day : ProcessDay) (d out : List ℕ) (x : Refusal) → close_of day d (length out) ≡ Err x → closed_bytes day d out ≡ out
 unfolding closed_bytes lent_after
 closed_refused day d out x e = ap (λ (v : Verdict). lent_after v (closed_file d) out) e
 
 -- a stripped file is closed to the same bytes again
-pub stripped_bytes : (day : ProcessDay) (b : List ℕ) (t : Totals) (out : List ℕ) → check_of day b ≡ Accepted t → length b ≤ length out
+pub stripped_bytes : (day : ProcessDay) (b : List ℕ) (t : Totals) (out : List ℕ) → check_of day b ≡ Ok t → length b ≤ length out
     → closed_bytes day (stripped b) out ≡ b ++ drop (length b) out
 stripped_bytes day b t out e fits =
     let v = stripped_closes day b t e (length out) fits in

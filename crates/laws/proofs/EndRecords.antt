@@ -10,10 +10,9 @@ use borrow.Author.Tests.{eqb-true, eq-eqb}
 use lib.Dec.{eqb, lit<}
 use lib.ListN.{length, get_or, take, drop, length-take, length-drop}
 use lib.Seq.{drop-drop, take-add}
-use Rattle.std.specs.Prelude.{if◌then◌else◌}
+use Rattle.std.specs.Prelude.{if◌then◌else◌, Some}
 use Rattle.fields.specs.Bytes.{every, same, text, part, is_digit, is_zero}
 use Rattle.fields.specs.Numbers.{value_from, value, number_of, written, code_of}
-use Rattle.fields.specs.Numbers.{Number}
 use Rattle.fields.proofs.Tests.{and_left, and_right, and_both}
 use Rattle.fields.proofs.Every.{same_is, same_self}
 use Rattle.fields.proofs.Values.{number_yes, number_is, written_length}
@@ -50,7 +49,7 @@ module _ (w n : ℕ) (s : List ℕ) where
       (v.0, eq-eqb (value s) n v.1)
 
   is_written : length s ≡ w → every is_digit s ≡ true → eqb (value s) n ≡ true → s ≡ written w n
-  is_written l d e = sym ((digit_field w).writes_back s n l (number_yes s d ∙ ap Number (eqb-true (value s) n e)))
+  is_written l d e = sym ((digit_field w).writes_back s n l (number_yes s d ∙ ap Some (eqb-true (value s) n e)))
 
 -- a code of two digits
 pub code_reads : (n : ℕ) (s : List ℕ) → s ≡ written 2 n → n < 100 → code_of s ≡ n

@@ -7,13 +7,11 @@ use mathlib.Core.Bool.{Bool, true, false, false≢true}
 use native.Mathlib.Omega.{arith}
 use borrow.Author.Tests.{eqb-true, ne_eqb}
 use lib.Dec.{eqb, ltb}
-use Rattle.std.specs.Prelude.{if◌then◌else◌}
+use Rattle.std.specs.Prelude.{if◌then◌else◌, Option, Some, None}
 use Rattle.fields.specs.Bytes.{part}
 use Rattle.fields.specs.Numbers.{value}
 use Rattle.dates.specs.Dates.{date, earlier, read_day}
 use Rattle.dates.specs.declared.Date.{Date}
-use Rattle.dates.specs.declared.Day.{Day}
-use Rattle.dates.specs.declared.Day.TheVariants.{On, NoDate}
 use Rattle.dates.specs.declared.Window.{Window}
 use Rattle.dates.proofs.Laws.{earlier_assoc, earlier_none, none_earlier, day_range}
 use Rattle.figures.specs.Totals.{◌⊕◌, one_record, one_assignment, one_transaction}
@@ -138,9 +136,9 @@ a_day : (n : ℕ) → is_day (read_day n) ≡ true → 0 < (the_date (read_day n
 unfolding read_day
 a_day n h = go (read_day n) refl h
   where
-    go : (x : Day) → read_day n ≡ x → is_day x ≡ true → 0 < (the_date x).0
-    go (On d) e h = omega (arith, day_range _ _ _ d e)
-    go NoDate e h = absurd (false≢true h)
+    go : (x : Option Date) → read_day n ≡ x → is_day x ≡ true → 0 < (the_date x).0
+    go (Some d) e h = omega (arith, day_range _ _ _ d e)
+    go None e h = absurd (false≢true h)
 
 date_of : (m : Mode) (w : Window) (f : Totals) (ks : List ℕ) (a : Assignment) (r : List ℕ) → AllHold f ks r (rows m w a r) → record_code r ≡ 30 → DateIn r
 unfolding AllHold kind_for

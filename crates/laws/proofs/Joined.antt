@@ -1,5 +1,6 @@
 -- Two accepted files that may be joined: the file they are joined to has a view of its own, with both bodies in one.
 -- Assumes nothing.
+use Rattle.std.proofs.Common.{Some, Ok}
 use Prim.Native.Nat.{ℕ, ◌+◌, ◌*◌, ◌≤◌}
 use mathlib.Core.Path.{◌≡◌, refl, sym, ap, ap₂, subst, ◌∙◌}
 use mathlib.Core.List.{List, [], ◌∷◌, ◌++◌, append_assoc}
@@ -8,12 +9,9 @@ use lib.ListN.{length, take}
 use Rattle.dates.specs.Windows.{window_of}
 use Rattle.dates.specs.declared.ProcessDay.{ProcessDay}
 use Rattle.dates.specs.declared.Window.{Window}
-use Rattle.dates.specs.declared.Opening.TheVariants.{Open}
 use Rattle.figures.specs.declared.totals.Totals.{Totals}
 use Rattle.limits.specs.Limits.{record_bytes}
 use Rattle.rules.specs.Run.{records_of, check_of}
-use Rattle.rules.specs.declared.Verdict.{Verdict}
-use Rattle.rules.specs.declared.Verdict.TheVariants.{Accepted}
 use Rattle.operations.specs.Ends.{end89}
 use Rattle.operations.specs.Joining.{sender, both, join_of, joined_file}
 use Rattle.operations.specs.Parting.{body_of}
@@ -26,11 +24,12 @@ use Rattle.laws.proofs.View.{view_accepted}
 use Rattle.laws.proofs.Bodies.{Together, good_join}
 use Rattle.laws.proofs.Made.{file_of, View, made_records, file_counted, file_head, body_records, file_sender, file_keys, both_are, joined_is}
 use Rattle.laws.proofs.Joins.{exclude, Outcome, joins, refuses, outcome}
+use Rattle.rules.specs.Refusals.{Verdict}
 
 -- ---- what a view says
 module _ (w : Window) (b : List ℕ) (t : Totals) (v : View w b t) where
-  pub view_checks : (day : ProcessDay) → window_of day ≡ Open w → check_of day b ≡ Accepted t
-  view_checks day o = ap (check_of day) v.bytes ∙ view_accepted day w v.head v.body o v.good ∙ ap Accepted (sym v.figures)
+  pub view_checks : (day : ProcessDay) → window_of day ≡ Some w → check_of day b ≡ Ok t
+  view_checks day o = ap (check_of day) v.bytes ∙ view_accepted day w v.head v.body o v.good ∙ ap Ok (sym v.figures)
 
   pub view_length : length b ≡ record_bytes * t.records.0
   view_length = ap length v.bytes ∙ file_counted w v.head v.body v.good ∙ ap (λ (x : Totals). record_bytes * x.records.0) (sym v.figures)
@@ -126,16 +125,16 @@ module _ (day : ProcessDay) (a b : List ℕ) (room : ℕ) (s t : Totals) (c : Bo
     pub fits : record_bytes * (both s t).records.0 ≤ room
     pub figures : u ≡ both s t
 
-  pub accepting : (u : Totals) → join_of day a b room ≡ Accepted u → Accepting u
+  pub accepting : (u : Totals) → join_of day a b room ≡ Ok u → Accepting u
   accepting u e = go (join_of day a b room) (outcome day a b room s t c) e
     where
-      go : (v : Verdict) → Outcome day a b room s t v → v ≡ Accepted u → Accepting u
+      go : (v : Verdict) → Outcome day a b room s t v → v ≡ Ok u → Accepting u
       go v (joins j h) e = record { joinable = j; fits = h; figures = cc }
       go v (refuses x r h) e = absurd (let z : ◌≡◌ {A = ℕ} 0 1 = cc in omega arith)
 
-  pub accepts : Joinable a b s t → record_bytes * (both s t).records.0 ≤ room → join_of day a b room ≡ Accepted (both s t)
+  pub accepts : Joinable a b s t → record_bytes * (both s t).records.0 ≤ room → join_of day a b room ≡ Ok (both s t)
   accepts j h = go (join_of day a b room) (outcome day a b room s t c)
     where
-      go : (v : Verdict) → Outcome day a b room s t v → v ≡ Accepted (both s t)
+      go : (v : Verdict) → Outcome day a b room s t v → v ≡ Ok (both s t)
       go v (joins j h) = refl
       go v (refuses x r n) = absurd (exclude a b s t j (n h))

@@ -1,5 +1,6 @@
 -- A file of a record 10, whole assignments and its 89, on bytes: its parts, its keys and its figures, and the file that two of them are joined to.
 -- Assumes nothing.
+use Rattle.std.proofs.Common.{Some, Ok}
 use Prim.Native.Nat.{ℕ, ◌+◌, ◌-◌, ◌*◌, ◌≤◌}
 use mathlib.Core.Path.{◌≡◌, refl, sym, ap, ap₂, subst, ◌∙◌}
 use mathlib.Core.List.{List, [], ◌∷◌, ◌++◌, append-nil, append_assoc}
@@ -9,7 +10,6 @@ use lib.Seq.{take_at, drop_at, take-append-le, drop-append-le}
 use Rattle.dates.specs.Windows.{window_of}
 use Rattle.dates.specs.declared.ProcessDay.{ProcessDay}
 use Rattle.dates.specs.declared.Window.{Window}
-use Rattle.dates.specs.declared.Opening.TheVariants.{Open}
 use Rattle.dates.specs.Dates.{earlier}
 use Rattle.dates.proofs.Laws.{earlier_none, none_earlier}
 use Rattle.fields.specs.Bytes.{part}
@@ -19,7 +19,6 @@ use Rattle.figures.specs.declared.totals.Totals.{Totals}
 use Rattle.rules.specs.Growth.{keys_for}
 use Rattle.rules.specs.Run.{records_of, check_of}
 use Rattle.rules.specs.declared.Kind.{Kind}
-use Rattle.rules.specs.declared.Verdict.TheVariants.{Accepted}
 use Rattle.operations.specs.Ends.{end89}
 use Rattle.operations.specs.Closing.{bytes_of}
 use Rattle.operations.specs.Joining.{sender, both, without_end, assignments_of, joined_file}
@@ -49,7 +48,7 @@ pub record View (w : Window) (b : List ℕ) (t : Totals) : Type 0 where
   pub bytes : b ≡ file_of head body
   pub figures : t ≡ figures_of body
 
-pub view : (day : ProcessDay) (w : Window) (b : List ℕ) (t : Totals) → window_of day ≡ Open w → check_of day b ≡ Accepted t → View w b t
+pub view : (day : ProcessDay) (w : Window) (b : List ℕ) (t : Totals) → window_of day ≡ Some w → check_of day b ≡ Ok t → View w b t
 view day w b t o e =
     let v = viewed day b t e in
     let same : v.window ≡ w = cc in

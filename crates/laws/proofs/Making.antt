@@ -10,7 +10,7 @@ use borrow.Author.Tests.{leb-true, leb-false, ltb-true, le-leb, lt-leb}
 use lib.Dec.{leb, ltb, eqb}
 use lib.ListN.{length, get_or, take, drop, length-append}
 use lib.Seq.{take_at}
-use Rattle.std.specs.Prelude.{if◌then◌else◌}
+use Rattle.std.specs.Prelude.{if◌then◌else◌, Ok, Err}
 use Rattle.limits.specs.Limits.{record_bytes}
 use Rattle.fields.specs.Bytes.{part, same}
 use Rattle.fields.specs.Numbers.{value, number_of, written, code_of}
@@ -22,9 +22,7 @@ use Rattle.field_texts.proofs.Widths.{left_length, right_length}
 use Rattle.dates.specs.declared.Window.{Window}
 use Rattle.figures.specs.Totals.{none}
 use Rattle.figures.specs.declared.totals.Totals.{Totals}
-use Rattle.layout.specs.Rows.{Row, at, must, file, passes, first_fault, AllHold, other_rows, row_number, row_field}
-use Rattle.layout.specs.declared.Finding.{Finding}
-use Rattle.layout.specs.declared.Finding.TheVariants.{Sound, Fault}
+use Rattle.layout.specs.Rows.{Row, at, must, file, passes, first_fault, AllHold, other_rows, row_reason, row_field}
 use Rattle.layout.proofs.Laws.{next, sound_of_all, all_of_sound, fault_not_sound}
 use Rattle.rules.specs.Alone.{listed_for, own_rows, own_table}
 use Rattle.rules.specs.Codes.{kind_for, kind_of, service_code}
@@ -39,52 +37,54 @@ use Rattle.rules.specs.declared.Mode.{Mode}
 use Rattle.rules.specs.declared.Places.{Places}
 use Rattle.rules.specs.declared.Refusal.{Refusal}
 use Rattle.operations.specs.Closing.{bytes_of}
-use Rattle.operations.specs.Making.{Put, record_from, too_long, not_made, on_sound, judged, make_of, lent_record, made_bytes, head, number, notification, message, code_by}
-use Rattle.operations.specs.declared.Making.{Making}
-use Rattle.operations.specs.declared.Making.TheVariants.{Made, NotMade}
+use Rattle.operations.specs.Making.{Put, record_from, too_long, not_made, on_sound, judged, make_of, lent_record, made_bytes, head, number, notification, message, code_by, recorded}
 use Rattle.laws.specs.Makable.{AllFit, LongValue, Makes, MakeRefusing, too_long_value, own_rule, no_room, Values, of10, of20, of30, of31, of40, of41, of49, of50, HeadRead, ReadsBack}
 use Rattle.laws.specs.Saved.{Saved}
 use Rattle.laws.proofs.Bytes.{cuts, widths, cut_again, laid_length, total}
 use Rattle.laws.proofs.EndRecords.{cuts_from, from_place, code_reads}
 use Rattle.laws.proofs.Sound.{hold_behind}
 use Rattle.laws.proofs.First.{fault_inj, sound_not_fault, broken, broken_so}
+use Rattle.layout.specs.Findings.{Finding, fault, sound}
+use Rattle.operations.specs.Making.{Making}
+use Rattle.layout.specs.declared.Reason.TheVariants.{NoRoom, TooLong}
+use Rattle.layout.specs.declared.Reason.{Reason}
 
 -- ---- 22
-pub all_fit : (ps : List Put) → too_long ps ≡ Sound → AllFit ps
+pub all_fit : (ps : List Put) → too_long ps ≡ sound → AllFit ps
 unfolding AllFit too_long
 all_fit [] e = tt
 all_fit (p ∷ ps) e = go p.fits refl e (λ x. all_fit ps x)
   where
-    go : (b : Bool) → p.fits ≡ b → (if b then too_long ps else Fault 22 p.field) ≡ Sound → (too_long ps ≡ Sound → AllFit ps) → (p.fits ≡ true) × AllFit ps
+    go : (b : Bool) → p.fits ≡ b → (if b then too_long ps else Err (fault TooLong p.field)) ≡ sound → (too_long ps ≡ sound → AllFit ps) → (p.fits ≡ true) × AllFit ps
     go true q e ih = (q, ih e)
-    go false q e ih = absurd (fault_not_sound 22 p.field e)
+    go false q e ih = absurd (fault_not_sound TooLong p.field e)
 
-pub none_long : (ps : List Put) → AllFit ps → too_long ps ≡ Sound
+pub none_long : (ps : List Put) → AllFit ps → too_long ps ≡ sound
 unfolding AllFit too_long
 none_long [] h = refl
 none_long (p ∷ ps) h = rw h.0 (none_long ps h.1)
 
 -- a value that is too long gives 22, and its field
-first_long : (ps : List Put) (n k : ℕ) → too_long ps ≡ Fault n k → (n ≡ 22) × LongValue ps k
+first_long : (ps : List Put) (n : Reason) (k : ℕ) → too_long ps ≡ Err (fault n k) → (n ≡ TooLong) × LongValue ps k
 unfolding AllFit too_long
 first_long [] n k e = absurd (sound_not_fault n k e)
 first_long (p ∷ ps) n k e = go p.fits refl e (λ x. first_long ps n k x)
   where
-    go : (b : Bool) → p.fits ≡ b → (if b then too_long ps else Fault 22 p.field) ≡ Fault n k → (too_long ps ≡ Fault n k → (n ≡ 22) × LongValue ps k) → (n ≡ 22) × LongValue (p ∷ ps) k
+    go : (b : Bool) → p.fits ≡ b → (if b then too_long ps else Err (fault TooLong p.field)) ≡ Err (fault n k) → (too_long ps ≡ Err (fault n k) → (n ≡ TooLong) × LongValue ps k) → (n ≡ TooLong) × LongValue (p ∷ ps) k
     go true q e ih =
         let v = ih e in
         (v.0, record { before = p ∷ v.1.before; value = v.1.value; unseen = v.1.unseen; whole = ap (λ (l : List Put). p ∷ l) v.1.whole; fit = (q, v.1.fit); long = v.1.long; field = v.1.field })
     go false q e ih =
-        let v = fault_inj 22 p.field n k e in
+        let v = fault_inj TooLong p.field n k e in
         (sym v.0, record { before = []; value = p; unseen = ps; whole = refl; fit = tt; long = q; field = v.1 })
 
-behind_fitting : (ps : List Put) (p : Put) (qs : List Put) → AllFit ps → p.fits ≡ false → too_long (ps ++ (p ∷ qs)) ≡ Fault 22 p.field
+behind_fitting : (ps : List Put) (p : Put) (qs : List Put) → AllFit ps → p.fits ≡ false → too_long (ps ++ (p ∷ qs)) ≡ Err (fault TooLong p.field)
 unfolding AllFit too_long
 behind_fitting [] p qs h e = rw e refl
 behind_fitting (x ∷ ps) p qs h e = rw h.0 (behind_fitting ps p qs h.1 e)
 
-long_first : (ps : List Put) (k : ℕ) → LongValue ps k → too_long ps ≡ Fault 22 k
-long_first ps k v = ap too_long v.whole ∙ behind_fitting v.before v.value v.unseen v.fit v.long ∙ ap (Fault 22) v.field
+long_first : (ps : List Put) (k : ℕ) → LongValue ps k → too_long ps ≡ Err (fault TooLong k)
+long_first ps k v = ap too_long v.whole ∙ behind_fitting v.before v.value v.unseen v.fit v.long ∙ ap (λ (k : ℕ). Err (fault TooLong k)) v.field
 
 -- ---- made, or refused: exactly when
 module _ (kind : Kind) (ps : List Put) (room : ℕ) where
@@ -92,40 +92,40 @@ module _ (kind : Kind) (ps : List Put) (room : ℕ) where
   own = first_fault none [] (record_from ps) (own_table kind (record_from ps))
 
   abbrev last : Making
-  last = if leb record_bytes room then Made else not_made 19 0
+  last = if leb record_bytes room then recorded else not_made NoRoom 0
 
   -- the definition in its three steps
   steps : make_of kind ps room ≡ on_sound (too_long ps) (on_sound own last)
   unfolding make_of judged
   steps = refl
 
-  made_not : (x : Refusal) → Made ≡ NotMade x → ⊥
+  made_not : (x : Refusal) → recorded ≡ Err x → ⊥
   made_not x e = let z : ◌≡◌ {A = ℕ} 0 1 = cc in omega arith
 
   -- what a making that went through shows
-  shown : (a b : Finding) (c : Bool) → too_long ps ≡ a → own ≡ b → leb record_bytes room ≡ c → on_sound a (on_sound b (if c then Made else not_made 19 0)) ≡ Made → Makes kind ps room
-  shown Sound Sound true p q r e = record { fit = all_fit ps p; own = all_of_sound none [] _ _ q; enough = leb-true record_bytes room r }
-  shown Sound Sound false p q r e = absurd (made_not _ (sym e))
-  shown Sound (Fault n k) c p q r e = absurd (made_not _ (sym e))
-  shown (Fault n k) b c p q r e = absurd (made_not _ (sym e))
+  shown : (a b : Finding) (c : Bool) → too_long ps ≡ a → own ≡ b → leb record_bytes room ≡ c → on_sound a (on_sound b (if c then recorded else not_made NoRoom 0)) ≡ recorded → Makes kind ps room
+  shown (Ok u) (Ok v) true p q r e = record { fit = all_fit ps p; own = all_of_sound none [] _ _ q; enough = leb-true record_bytes room r }
+  shown (Ok u) (Ok v) false p q r e = absurd (made_not _ (sym e))
+  shown (Ok u) (Err x) c p q r e = absurd (made_not _ (sym e))
+  shown (Err x) b c p q r e = absurd (made_not _ (sym e))
 
   -- a record is made exactly when every value fits, every own rule of it holds, and there is room
-  pub made_exactly : (make_of kind ps room ≡ Made) ↔ Makes kind ps room
+  pub made_exactly : (make_of kind ps room ≡ recorded) ↔ Makes kind ps room
   made_exactly = (λ e. shown (too_long ps) own (leb record_bytes room) refl refl refl (sym steps ∙ e), back)
     where
-      back : Makes kind ps room → make_of kind ps room ≡ Made
+      back : Makes kind ps room → make_of kind ps room ≡ recorded
       back h = steps ∙ simp (none_long ps h.fit, sound_of_all none [] (record_from ps) (own_table kind (record_from ps)) h.own, le-leb record_bytes room h.enough)
 
   -- what a refusal shows
   reason : (a b : Finding) (c : Bool) (x : Refusal) → too_long ps ≡ a → own ≡ b → leb record_bytes room ≡ c
-      → on_sound a (on_sound b (if c then Made else not_made 19 0)) ≡ NotMade x → MakeRefusing kind ps room (NotMade x)
-  reason Sound Sound true x p q r e = absurd (made_not x e)
-  reason Sound Sound false x p q r e = subst (MakeRefusing kind ps room) e (no_room (all_fit ps p) (all_of_sound none [] _ _ q) (leb-false record_bytes room r))
-  reason Sound (Fault n k) c x p q r e =
-      subst (MakeRefusing kind ps room) e (own_rule n k (all_fit ps p) (broken none [] (record_from ps) (own_table kind (record_from ps)) n k q))
-  reason (Fault n k) b c x p q r e =
-      let v = first_long ps n k p in
-      subst (MakeRefusing kind ps room) (ap (λ (m : ℕ). not_made m k) (sym v.0) ∙ e) (too_long_value k v.1)
+      → on_sound a (on_sound b (if c then recorded else not_made NoRoom 0)) ≡ Err x → MakeRefusing kind ps room (Err x)
+  reason (Ok u) (Ok v) true x p q r e = absurd (made_not x e)
+  reason (Ok u) (Ok v) false x p q r e = subst (MakeRefusing kind ps room) e (no_room (all_fit ps p) (all_of_sound none [] _ _ q) (leb-false record_bytes room r))
+  reason (Ok u) (Err z) c x p q r e =
+      subst (MakeRefusing kind ps room) e (own_rule z.reason z.field (all_fit ps p) (broken none [] (record_from ps) (own_table kind (record_from ps)) z.reason z.field q))
+  reason (Err z) b c x p q r e =
+      let v = first_long ps z.reason z.field p in
+      subst (MakeRefusing kind ps room) (ap (λ (m : Reason). not_made m z.field) (sym v.0) ∙ e) (too_long_value z.field v.1)
 
   -- what a reason gives
   given_so : (x : Making) → MakeRefusing kind ps room x → make_of kind ps room ≡ x
@@ -135,15 +135,15 @@ module _ (kind : Kind) (ps : List Put) (room : ℕ) where
   given_so _ (no_room f h r) = steps ∙ simp (none_long ps f, sound_of_all none [] (record_from ps) (own_table kind (record_from ps)) h, lt-leb record_bytes room r)
 
   -- a record is refused exactly for the first of the stated reasons, with its number and its field
-  pub made_refused_exactly : (x : Refusal) → (make_of kind ps room ≡ NotMade x) ↔ MakeRefusing kind ps room (NotMade x)
-  made_refused_exactly x = (λ e. reason (too_long ps) own (leb record_bytes room) x refl refl refl (sym steps ∙ e), given_so (NotMade x))
+  pub made_refused_exactly : (x : Refusal) → (make_of kind ps room ≡ Err x) ↔ MakeRefusing kind ps room (Err x)
+  made_refused_exactly x = (λ e. reason (too_long ps) own (leb record_bytes room) x refl refl refl (sym steps ∙ e), given_so (Err x))
 
 -- a refusal changes no byte; what is made lies over the start of the buffer
-pub make_refused : (kind : Kind) (ps : List Put) (out : List ℕ) (x : Refusal) → make_of kind ps (length out) ≡ NotMade x → made_bytes kind ps out ≡ out
+pub make_refused : (kind : Kind) (ps : List Put) (out : List ℕ) (x : Refusal) → make_of kind ps (length out) ≡ Err x → made_bytes kind ps out ≡ out
 unfolding made_bytes lent_record
 make_refused kind ps out x e = ap (λ (m : Making). lent_record m (record_from ps) out) e
 
-pub made_bytes_lem : (kind : Kind) (ps : List Put) (out : List ℕ) → make_of kind ps (length out) ≡ Made → made_bytes kind ps out ≡ record_from ps ++ drop record_bytes out
+pub made_bytes_lem : (kind : Kind) (ps : List Put) (out : List ℕ) → make_of kind ps (length out) ≡ recorded → made_bytes kind ps out ≡ record_from ps ++ drop record_bytes out
 unfolding made_bytes lent_record
 made_bytes_lem kind ps out e = ap (λ (m : Making). lent_record m (record_from ps) out) e
 
@@ -268,13 +268,13 @@ shaped _ _ (of50 service type n kid amount) h = let p = places _ _ (of50 service
 
 -- of the values of a record that is made, each is read from it; and it has 81 bytes, which lie over the start of the buffer
 module _ (kind : Kind) (ps : List Put) (v : Values kind ps) (room : ℕ) where
-  pub made_reads_back : make_of kind ps room ≡ Made → ReadsBack kind ps v (record_from ps)
+  pub made_reads_back : make_of kind ps room ≡ recorded → ReadsBack kind ps v (record_from ps)
   made_reads_back e = reads_back kind ps v ((made_exactly kind ps room).0 e).fit
 
-  pub made_sized : make_of kind ps room ≡ Made → length (record_from ps) ≡ record_bytes
+  pub made_sized : make_of kind ps room ≡ recorded → length (record_from ps) ≡ record_bytes
   made_sized e = (shaped kind ps v ((made_exactly kind ps room).0 e).fit).sized
 
-pub made_saved : (kind : Kind) (ps : List Put) → Values kind ps → (out : List ℕ) → make_of kind ps (length out) ≡ Made → Saved record_bytes (record_from ps) (made_bytes kind ps out)
+pub made_saved : (kind : Kind) (ps : List Put) → Values kind ps → (out : List ℕ) → make_of kind ps (length out) ≡ recorded → Saved record_bytes (record_from ps) (made_bytes kind ps out)
 made_saved kind ps v out e =
     let l = made_sized kind ps v (length out) e in
     let b = made_bytes_lem kind ps out e in
@@ -287,7 +287,7 @@ made_saved kind ps v out e =
 -- ---- in a file
 keep : (f : Totals) (ks r : List ℕ) (w : Row) (ws vs : List Row) → first_fault f ks r ws ≡ first_fault f ks r vs → first_fault f ks r (w ∷ ws) ≡ first_fault f ks r (w ∷ vs)
 unfolding first_fault
-keep f ks r w ws vs e = ap (λ (x : Finding). if passes f ks r w then x else Fault (row_number w) (row_field w)) e
+keep f ks r w ws vs e = ap (λ (x : Finding). if passes f ks r w then x else Err (fault (row_reason w) (row_field w))) e
 
 -- where a record's own rules hold, the others are left
 left_over : (f : Totals) (ks r : List ℕ) (ws : List Row) → AllHold none [] r (own_rows r ws) → first_fault f ks r ws ≡ first_fault f ks r (other_rows ws)
@@ -329,7 +329,7 @@ own_anywhere R89 w a r = refl
 own_anywhere Other w a r = refl
 
 -- of a made record only the rows on the assignment, the process day and the file are left to hold, in a file and in a draft
-pub made_in_a_file : (kind : Kind) (ps : List Put) → Values kind ps → (room : ℕ) → make_of kind ps room ≡ Made
+pub made_in_a_file : (kind : Kind) (ps : List Put) → Values kind ps → (room : ℕ) → make_of kind ps room ≡ recorded
     → (m : Mode) (w : Window) (a : Assignment) (f : Totals) (ks : List ℕ)
     → first_fault f ks (record_from ps) (rows m w a (record_from ps)) ≡ first_fault f ks (record_from ps) (other_rows (rows m w a (record_from ps)))
 unfolding AllHold own_rows

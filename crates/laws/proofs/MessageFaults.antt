@@ -10,7 +10,7 @@ use borrow.Author.Tests.{eqb-true, ltb-true, ltb-false, not-true}
 use lib.Count.{ones}
 use lib.Dec.{eqb, ltb}
 use lib.ListN.{length}
-use Rattle.std.specs.Prelude.{if◌then◌else◌}
+use Rattle.std.specs.Prelude.{if◌then◌else◌, Ok, Err}
 use Rattle.limits.specs.Limits.{most_in_message}
 use Rattle.dates.specs.declared.ProcessDay.{ProcessDay}
 use Rattle.dates.specs.declared.Window.{Window}
@@ -18,10 +18,8 @@ use Rattle.figures.specs.Totals.{none, ◌⊕◌}
 use Rattle.figures.specs.declared.totals.Totals.{Totals}
 use Rattle.fields.proofs.Tests.{and_left, and_right}
 use Rattle.layout.specs.Rules.{textual, zeros}
-use Rattle.layout.specs.Findings.{or_else}
-use Rattle.layout.specs.Rows.{Row, at, must, member, passes, row_number, row_field, first_fault, AllHold}
-use Rattle.layout.specs.declared.Finding.{Finding}
-use Rattle.layout.specs.declared.Finding.TheVariants.{Sound, Fault}
+use Rattle.layout.specs.Findings.{or_else, sound, number_of}
+use Rattle.layout.specs.Rows.{Row, at, must, member, passes, row_reason, row_field, first_fault, AllHold}
 use Rattle.layout.proofs.Laws.{next, stop, ended, pieces}
 use Rattle.rules.specs.Codes.{kind_for, kind_of, number_of_kind, service_code}
 use Rattle.rules.specs.Fields.{on, message_of}
@@ -39,7 +37,6 @@ use Rattle.rules.specs.declared.Mode.{Mode}
 use Rattle.rules.specs.declared.Mode.TheVariants.{File, Draft}
 use Rattle.rules.specs.declared.Places.{Places}
 use Rattle.rules.specs.declared.Refusal.{Refusal}
-use Rattle.rules.specs.declared.Verdict.{Verdict}
 use Rattle.rules.proofs.Free.{clash, full, room}
 use Rattle.rules.proofs.Mask.{none_taken, one_place_more, placed_clashes, unplaced_free, taken_after}
 use Rattle.operations.specs.Closing.{close_of}
@@ -55,50 +52,54 @@ use Rattle.laws.proofs.Messages.{up_to_column, place_repeated, message_full}
 use Rattle.laws.proofs.Sound.{meets_split, turns_join}
 use Rattle.laws.proofs.Transactions.{Outside, Limited, line_in, column_in, bounded_by, free_in, only, none_behind, outside_on, grown, others, within_limit, is_49}
 use Rattle.laws.proofs.Types.{type_by}
+use Rattle.layout.specs.Findings.{Finding, fault}
+use Rattle.rules.specs.Refusals.{Verdict}
+use Rattle.layout.specs.declared.Reason.TheVariants.{PlaceTaken, MessageFull, NoProcessDay, BrokenLength, TooManyRecords, EndsEarly, NotAddedUp, NoRoom, OutOfPlace}
+use Rattle.layout.specs.declared.Reason.{Reason}
 
 -- ---- the rows that give 17 or 23
-abbrev of_places : ℕ → Bool
-of_places n = eqb n 17 || eqb n 23
+abbrev of_places : Reason → Bool
+of_places n = eqb (number_of n) 17 || eqb (number_of n) 23
 
 unfoldable lacks : List Row → Bool
 lacks [] = true
-lacks (w ∷ ws) = not (of_places (row_number w)) && lacks ws
+lacks (w ∷ ws) = not (of_places (row_reason w)) && lacks ws
 
-module _ (f : Totals) (ks r : List ℕ) (n k : ℕ) (q : of_places n ≡ true) where
-  -- a row of another number holds
-  past_row : (w : Row) (ws : List Row) → of_places (row_number w) ≡ false → first_fault f ks r (w ∷ ws) ≡ Fault n k → (passes f ks r w ≡ true) × (first_fault f ks r ws ≡ Fault n k)
+module _ (f : Totals) (ks r : List ℕ) (n : Reason) (k : ℕ) (q : of_places n ≡ true) where
+  -- a row of another reason holds
+  past_row : (w : Row) (ws : List Row) → of_places (row_reason w) ≡ false → first_fault f ks r (w ∷ ws) ≡ Err (fault n k) → (passes f ks r w ≡ true) × (first_fault f ks r ws ≡ Err (fault n k))
   past_row w ws h e = go (passes f ks r w) refl
     where
-      go : (b : Bool) → passes f ks r w ≡ b → (passes f ks r w ≡ true) × (first_fault f ks r ws ≡ Fault n k)
+      go : (b : Bool) → passes f ks r w ≡ b → (passes f ks r w ≡ true) × (first_fault f ks r ws ≡ Err (fault n k))
       go true p = (p, sym (next f ks r w ws p) ∙ e)
       go false p =
-          let same = (fault_inj (row_number w) (row_field w) n k (sym (stop f ks r w ws p) ∙ e)).0 in
+          let same = (fault_inj (row_reason w) (row_field w) n k (sym (stop f ks r w ws p) ∙ e)).0 in
           absurd (true≢false (sym q ∙ ap of_places (sym same) ∙ h))
 
-  past_rows : (ws vs : List Row) → lacks ws ≡ true → first_fault f ks r (ws ++ vs) ≡ Fault n k → AllHold f ks r ws × (first_fault f ks r vs ≡ Fault n k)
+  past_rows : (ws vs : List Row) → lacks ws ≡ true → first_fault f ks r (ws ++ vs) ≡ Err (fault n k) → AllHold f ks r ws × (first_fault f ks r vs ≡ Err (fault n k))
   unfolding lacks AllHold
   past_rows [] vs h e = (tt, e)
   past_rows (w ∷ ws) vs h e =
-      let here = past_row w (ws ++ vs) (not-true (of_places (row_number w)) (and_left _ _ h)) e in
-      let rest = past_rows ws vs (and_right (not (of_places (row_number w))) (lacks ws) h) here.1 in
+      let here = past_row w (ws ++ vs) (not-true (of_places (row_reason w)) (and_left _ _ h)) e in
+      let rest = past_rows ws vs (and_right (not (of_places (row_reason w))) (lacks ws) h) here.1 in
       ((here.0, rest.0), rest.1)
 
-  none_gives : (ws : List Row) → lacks ws ≡ true → first_fault f ks r ws ≡ Fault n k → ⊥
+  none_gives : (ws : List Row) → lacks ws ≡ true → first_fault f ks r ws ≡ Err (fault n k) → ⊥
   unfolding lacks
   none_gives [] h e = sound_not_fault n k (sym (ended f ks r) ∙ e)
   none_gives (w ∷ ws) h e =
-      none_gives ws (and_right (not (of_places (row_number w))) (lacks ws) h) (past_row w ws (not-true (of_places (row_number w)) (and_left _ _ h)) e).1
+      none_gives ws (and_right (not (of_places (row_reason w))) (lacks ws) h) (past_row w ws (not-true (of_places (row_reason w)) (and_left _ _ h)) e).1
 
   -- so what comes before such rows gives it
-  before_others : (ws vs : List Row) → lacks vs ≡ true → first_fault f ks r (ws ++ vs) ≡ Fault n k → first_fault f ks r ws ≡ Fault n k
+  before_others : (ws vs : List Row) → lacks vs ≡ true → first_fault f ks r (ws ++ vs) ≡ Err (fault n k) → first_fault f ks r ws ≡ Err (fault n k)
   before_others ws vs h e = go (first_fault f ks r ws) refl
     where
-      joined : (x : Finding) → first_fault f ks r ws ≡ x → or_else x (first_fault f ks r vs) ≡ Fault n k
+      joined : (x : Finding) → first_fault f ks r ws ≡ x → or_else x (first_fault f ks r vs) ≡ Err (fault n k)
       joined x p = sym (pieces f ks r ws vs ∙ ap (λ (y : Finding). or_else y (first_fault f ks r vs)) p) ∙ e
 
-      go : (x : Finding) → first_fault f ks r ws ≡ x → first_fault f ks r ws ≡ Fault n k
-      go Sound p = absurd (none_gives vs h (joined Sound p))
-      go (Fault i j) p = p ∙ joined (Fault i j) p
+      go : (x : Finding) → first_fault f ks r ws ≡ x → first_fault f ks r ws ≡ Err (fault n k)
+      go (Ok u) p = absurd (none_gives vs h (joined sound p))
+      go (Err e) p = p ∙ joined (Err e) p
 
 -- the notification code does not
 code_lacks : (s : ℕ) → lacks (notification49 s) ≡ true
@@ -110,20 +111,20 @@ code_lacks s = go (eqb s 4)
     go false = refl
 
 -- a record that is refused with one of them is a 49 that may stand where it stands, and it is what its line and column find of the message
-record Of49 (m : Mode) (f : Totals) (ks r : List ℕ) (a : Assignment) (n k : ℕ) : Type 0 where
+record Of49 (m : Mode) (f : Totals) (ks r : List ℕ) (a : Assignment) (n : Reason) (k : ℕ) : Type 0 where
   type : kind_of r ≡ R49
   follows : may_follow m a R49 ≡ true
   bounds : (line_in r ≤ 21) × (column_in r ≤ 2)
-  found : first_fault f ks r (free_in a.places r) ≡ Fault n k
+  found : first_fault f ks r (free_in a.places r) ≡ Err (fault n k)
 
-of_49 : (m : Mode) (w : Window) (f : Totals) (ks r : List ℕ) (a : Assignment) (n k : ℕ) → of_places n ≡ true → first_fault f ks r (rows m w a r) ≡ Fault n k → Of49 m f ks r a n k
+of_49 : (m : Mode) (w : Window) (f : Totals) (ks r : List ℕ) (a : Assignment) (n : Reason) (k : ℕ) → of_places n ≡ true → first_fault f ks r (rows m w a r) ≡ Err (fault n k) → Of49 m f ks r a n k
 unfolding lacks AllHold
 of_49 m w f ks r a n k q e = go (kind_of r) refl top.0.1.0 top.1
   where
-    top : AllHold f ks r (at 0 81 81 line_feed ∷ must (may_follow m a (kind_of r)) 5 4 ∷ []) × (first_fault f ks r (table_for (kind_of r) w a r) ≡ Fault n k)
-    top = past_rows f ks r n k q (at 0 81 81 line_feed ∷ must (may_follow m a (kind_of r)) 5 4 ∷ []) (table_for (kind_of r) w a r) refl e
+    top : AllHold f ks r (at 0 81 81 line_feed ∷ must (may_follow m a (kind_of r)) OutOfPlace 4 ∷ []) × (first_fault f ks r (table_for (kind_of r) w a r) ≡ Err (fault n k))
+    top = past_rows f ks r n k q (at 0 81 81 line_feed ∷ must (may_follow m a (kind_of r)) OutOfPlace 4 ∷ []) (table_for (kind_of r) w a r) refl e
 
-    message : first_fault f ks r (table_for R49 w a r) ≡ Fault n k → ((line_in r ≤ 21) × (column_in r ≤ 2)) × (first_fault f ks r (free_in a.places r) ≡ Fault n k)
+    message : first_fault f ks r (table_for R49 w a r) ≡ Err (fault n k) → ((line_in r ≤ 21) × (column_in r ≤ 2)) × (first_fault f ks r (free_in a.places r) ≡ Err (fault n k))
     message x =
         let m = message_of (service_code r) in
         let y = (past_rows f ks r n k q (repeats a r) _ refl x).1 in
@@ -131,7 +132,7 @@ of_49 m w f ks r a n k q e = go (kind_of r) refl top.0.1.0 top.1
         let sound = past_rows f ks r n k q (on m.line line ∷ on m.column column ∷ []) _ refl z in
         (bounded_by r sound.0.0 sound.0.1.0, before_others f ks r n k q (free_in a.places r) (on m.text textual ∷ on m.filler zeros ∷ []) refl sound.1)
 
-    go : (j : Kind) → kind_of r ≡ j → may_follow m a (kind_of r) ≡ true → first_fault f ks r (table_for j w a r) ≡ Fault n k → Of49 m f ks r a n k
+    go : (j : Kind) → kind_of r ≡ j → may_follow m a (kind_of r) ≡ true → first_fault f ks r (table_for j w a r) ≡ Err (fault n k) → Of49 m f ks r a n k
     go R10 t h x = absurd (none_gives f ks r n k q (table_for R10 w a r) refl x)
     go R20 t h x = absurd (none_gives f ks r n k q (table_for R20 w a r) refl x)
     go R30 t h x = absurd (none_gives f ks r n k q (table_for R30 w a r) refl x)
@@ -146,23 +147,23 @@ of_49 m w f ks r a n k q e = go (kind_of r) refl top.0.1.0 top.1
 
 -- 17 where its place is taken, 23 where it is one too many
 module _ (f : Totals) (ks r : List ℕ) (a : Assignment) (k : ℕ) where
-  numbers_differ : (i j l : ℕ) → Fault i l ≡ Fault j k → (i ≡ j → ⊥) → ⊥
+  numbers_differ : (i j : Reason) (l : ℕ) → ◌≡◌ {A = Finding} (Err (fault i l)) (Err (fault j k)) → (i ≡ j → ⊥) → ⊥
   numbers_differ i j l e h = h (fault_inj i l j k e).0
 
-  by_17 : first_fault f ks r (free_in a.places r) ≡ Fault 17 k → clashes_in a.places r ≡ true
+  by_17 : first_fault f ks r (free_in a.places r) ≡ Err (fault PlaceTaken k) → clashes_in a.places r ≡ true
   by_17 e = go (clashes_in a.places r) refl (ltb (used a.places) most_in_message) refl
     where
       go : (b : Bool) → clashes_in a.places r ≡ b → (c : Bool) → ltb (used a.places) most_in_message ≡ c → clashes_in a.places r ≡ true
       go true h c l = h
-      go false h true l = absurd (sound_not_fault 17 k (sym (room a.places _ _ f ks r h (ltb-true _ _ l)) ∙ e))
-      go false h false l = absurd (numbers_differ 23 17 7 (sym (full a.places _ _ f ks r h (ltb-false _ _ l)) ∙ e) (λ z. omega arith))
+      go false h true l = absurd (sound_not_fault PlaceTaken k (sym (room a.places _ _ f ks r h (ltb-true _ _ l)) ∙ e))
+      go false h false l = absurd (numbers_differ MessageFull PlaceTaken 7 (sym (full a.places _ _ f ks r h (ltb-false _ _ l)) ∙ e) (λ z. omega (arith, ap number_of z)))
 
-  by_23 : first_fault f ks r (free_in a.places r) ≡ Fault 23 k → (clashes_in a.places r ≡ false) × (most_in_message ≤ used a.places)
+  by_23 : first_fault f ks r (free_in a.places r) ≡ Err (fault MessageFull k) → (clashes_in a.places r ≡ false) × (most_in_message ≤ used a.places)
   by_23 e = go (clashes_in a.places r) refl (ltb (used a.places) most_in_message) refl
     where
       go : (b : Bool) → clashes_in a.places r ≡ b → (c : Bool) → ltb (used a.places) most_in_message ≡ c → (clashes_in a.places r ≡ false) × (most_in_message ≤ used a.places)
-      go true h c l = absurd (numbers_differ 17 23 7 (sym (clash a.places _ _ f ks r h) ∙ e) (λ z. omega arith))
-      go false h true l = absurd (sound_not_fault 23 k (sym (room a.places _ _ f ks r h (ltb-true _ _ l)) ∙ e))
+      go true h c l = absurd (numbers_differ PlaceTaken MessageFull 7 (sym (clash a.places _ _ f ks r h) ∙ e) (λ z. omega (arith, ap number_of z)))
+      go false h true l = absurd (sound_not_fault MessageFull k (sym (room a.places _ _ f ks r h (ltb-true _ _ l)) ∙ e))
       go false h false l = (h, ltb-false _ _ l)
 
 -- ---- a place that is taken was taken by a 49 with that place
@@ -323,54 +324,54 @@ module _ (m : Mode) (w : Window) where
         go true q (inl u) = absurd (all_placed q u)
 
 -- ---- the theorems
--- what a refusal with such a number says
-refused_parts : (n i k n' i' k' : ℕ) → refused n 0 i k ≡ refused n' 0 i' k' → (n ≡ n') × (i ≡ i') × (k ≡ k')
+-- what a refusal with such a reason says
+refused_parts : (n : Reason) (i k : ℕ) (n' : Reason) (i' k' : ℕ) → refused n 0 i k ≡ refused n' 0 i' k' → (n ≡ n') × (i ≡ i') × (k ≡ k')
 refused_parts n i k n' i' k' e =
     let same : refusal n 0 i k ≡ refusal n' 0 i' k' = cc in
-    (ap (λ (x : Refusal). x.number) same, ap (λ (x : Refusal). x.«record») same, ap (λ (x : Refusal). x.field) same)
+    (ap (λ (x : Refusal). x.reason) same, ap (λ (x : Refusal). x.«record») same, ap (λ (x : Refusal). x.field) same)
 
-not_of_places : {A : Type 0} (o i k n i' k' : ℕ) → of_places n ≡ true → of_places o ≡ false → refused o 0 i k ≡ refused n 0 i' k' → A
+not_of_places : {A : Type 0} (o : Reason) (i k : ℕ) (n : Reason) (i' k' : ℕ) → of_places n ≡ true → of_places o ≡ false → refused o 0 i k ≡ refused n 0 i' k' → A
 not_of_places o i k n i' k' q h x = absurd (true≢false (sym q ∙ ap of_places (sym (refused_parts o i k n i' k' x).0) ∙ h))
 
-record Faulted (m : Mode) (rs : List (List ℕ)) (n i k : ℕ) : Type 0 where
+record Faulted (m : Mode) (rs : List (List ℕ)) (n : Reason) (i k : ℕ) : Type 0 where
   window : Window
   j : ℕ
   fault : FirstFault m window none [] start.assignment rs j n k
   place : j + 1 ≡ i
 
-faulted : (m : Mode) (w : Window) (rs : List (List ℕ)) (j n' k' n i k : ℕ) → FirstFault m w none [] start.assignment rs j n' k' → refused n' 0 (j + 1) k' ≡ refused n 0 i k → Faulted m rs n i k
+faulted : (m : Mode) (w : Window) (rs : List (List ℕ)) (j : ℕ) (n' : Reason) (k' : ℕ) (n : Reason) (i k : ℕ) → FirstFault m w none [] start.assignment rs j n' k' → refused n' 0 (j + 1) k' ≡ refused n 0 i k → Faulted m rs n i k
 faulted m w rs j n' k' n i k f x =
     let same = refused_parts n' (j + 1) k' n i k x in
     record {
       window = w;
       j = j;
-      fault = subst (λ (z : ℕ). FirstFault m w none [] start.assignment rs j z k) same.0 (subst (λ (z : ℕ). FirstFault m w none [] start.assignment rs j n' z) same.2 f);
+      fault = subst (λ (z : Reason). FirstFault m w none [] start.assignment rs j z k) same.0 (subst (λ (z : ℕ). FirstFault m w none [] start.assignment rs j n' z) same.2 f);
       place = same.1;
     }
 
-of_file : (day : ProcessDay) (b : List ℕ) (n i k : ℕ) → of_places n ≡ true → check_of day b ≡ refused n 0 i k → Faulted File (records_of b) n i k
+of_file : (day : ProcessDay) (b : List ℕ) (n : Reason) (i k : ℕ) → of_places n ≡ true → check_of day b ≡ refused n 0 i k → Faulted File (records_of b) n i k
 of_file day b n i k q e = go _ refl ((refused_first day b (refusal n 0 i k)).0 e)
   where
     go : (v : Verdict) → v ≡ refused n 0 i k → Refusing day b v → Faulted File (records_of b) n i k
-    go v x (wrong_day o) = not_of_places 1 0 0 n i k q refl x
-    go v x (wrong_length w o p) = not_of_places 2 0 0 n i k q refl x
-    go v x (too_many w o p s) = not_of_places 3 0 0 n i k q refl x
+    go v x (wrong_day o) = not_of_places NoProcessDay 0 0 n i k q refl x
+    go v x (wrong_length w o p) = not_of_places BrokenLength 0 0 n i k q refl x
+    go v x (too_many w o p s) = not_of_places TooManyRecords 0 0 n i k q refl x
     go v x (at_record w j n' k' o p s f) = faulted File w (records_of b) j n' k' n i k f x
-    go v x (at_end w o p s h y) = not_of_places 6 (length (records_of b) + 1) 0 n i k q refl x
+    go v x (at_end w o p s h y) = not_of_places EndsEarly (length (records_of b) + 1) 0 n i k q refl x
 
-of_draft : (day : ProcessDay) (d : List ℕ) (room n i k : ℕ) → of_places n ≡ true → close_of day d room ≡ refused n 0 i k → Faulted Draft (records_of d) n i k
+of_draft : (day : ProcessDay) (d : List ℕ) (room : ℕ) (n : Reason) (i k : ℕ) → of_places n ≡ true → close_of day d room ≡ refused n 0 i k → Faulted Draft (records_of d) n i k
 of_draft day d room n i k q e = go _ refl ((close_order day d room (refusal n 0 i k)).0 e)
   where
     go : (v : Verdict) → v ≡ refused n 0 i k → CloseRefusing day d room v → Faulted Draft (records_of d) n i k
-    go v x (draft.wrong_day o) = not_of_places 1 0 0 n i k q refl x
-    go v x (draft.wrong_length w o p) = not_of_places 2 0 0 n i k q refl x
-    go v x (draft.too_many w o p s) = not_of_places 3 0 0 n i k q refl x
+    go v x (draft.wrong_day o) = not_of_places NoProcessDay 0 0 n i k q refl x
+    go v x (draft.wrong_length w o p) = not_of_places BrokenLength 0 0 n i k q refl x
+    go v x (draft.too_many w o p s) = not_of_places TooManyRecords 0 0 n i k q refl x
     go v x (draft.at_record w j n' k' o p s f) = faulted Draft w (records_of d) j n' k' n i k f x
-    go v x (draft.at_end w o p s h y) = not_of_places 6 (length (records_of d) + 1) 0 n i k q refl x
-    go v x (draft.last_group w o p s h y z) = not_of_places 14 (length (records_of d) + 1) 0 n i k q refl x
-    go v x (draft.short_output h y) = not_of_places 19 0 0 n i k q refl x
+    go v x (draft.at_end w o p s h y) = not_of_places EndsEarly (length (records_of d) + 1) 0 n i k q refl x
+    go v x (draft.last_group w o p s h y z) = not_of_places NotAddedUp (length (records_of d) + 1) 0 n i k q refl x
+    go v x (draft.short_output h y) = not_of_places NoRoom 0 0 n i k q refl x
 
-module _ (m : Mode) (rs : List (List ℕ)) (n i k : ℕ) (q : of_places n ≡ true) (v : Faulted m rs n i k) where
+module _ (m : Mode) (rs : List (List ℕ)) (n : Reason) (i k : ℕ) (q : of_places n ≡ true) (v : Faulted m rs n i k) where
   -- the state that the records before it leave, and what the refused record finds there
   abbrev left : Assignment
   left = turns start.assignment v.fault.before
@@ -379,7 +380,7 @@ module _ (m : Mode) (rs : List (List ℕ)) (n i k : ℕ) (q : of_places n ≡ tr
   refused_49 =
       let x = v.fault in
       of_49 m v.window _ _ x.here left n k q
-      (broken_so _ _ x.here _ n k record { held = x.held; row = x.row; unseen = x.unseen; table = x.table; hold = x.hold; fails = x.fails; number = x.number; field = x.field })
+      (broken_so _ _ x.here _ n k record { held = x.held; row = x.row; unseen = x.unseen; table = x.table; hold = x.hold; fails = x.fails; reason = x.reason; field = x.field })
 
   told : (P : List (List ℕ) → List ℕ → Type 0) → P v.fault.before v.fault.here → At49 rs i P
   told P p =
@@ -398,43 +399,43 @@ clashed_with a before r clear c = go (has_place r) refl
     go true p = (p, earlier (taken_by_lem a before (place_in r) (sym (placed_clashes _ _ _ p) ∙ c)))
     go false p = absurd (true≢false (sym c ∙ unplaced_free _ _ _ p))
 
-clash_at : (m : Mode) (rs : List (List ℕ)) (i k : ℕ) → Faulted m rs 17 i k → At49 rs i Clash
+clash_at : (m : Mode) (rs : List (List ℕ)) (i k : ℕ) → Faulted m rs PlaceTaken i k → At49 rs i Clash
 clash_at m rs i k v =
-    let a = left m rs 17 i k refl v in
-    told m rs 17 i k refl v Clash (clashed_with start.assignment v.fault.before v.fault.here refl (by_17 _ _ v.fault.here a k (refused_49 m rs 17 i k refl v).found))
+    let a = left m rs PlaceTaken i k refl v in
+    told m rs PlaceTaken i k refl v Clash (clashed_with start.assignment v.fault.before v.fault.here refl (by_17 _ _ v.fault.here a k (refused_49 m rs PlaceTaken i k refl v).found))
 
-full_at : (m : Mode) (rs : List (List ℕ)) (i k : ℕ) → Faulted m rs 23 i k → At49 rs i OneTooMany
+full_at : (m : Mode) (rs : List (List ℕ)) (i k : ℕ) → Faulted m rs MessageFull i k → At49 rs i OneTooMany
 full_at m rs i k v =
     let x = v.fault in
-    let found = refused_49 m rs 23 i k refl v in
-    let past = by_23 _ _ x.here (left m rs 23 i k refl v) k found.found in
+    let found = refused_49 m rs MessageFull i k refl v in
+    let past = by_23 _ _ x.here (left m rs MessageFull i k refl v) k found.found in
     let full = full_before m v.window none [] start.assignment refl refl x.before x.meets found.follows past.1 in
-    told m rs 23 i k refl v OneTooMany
+    told m rs MessageFull i k refl v OneTooMany
     (full, some_unplaced m v.window none [] start.assignment refl refl x.before x.meets found.follows past.1 full.last x.here found.type found.bounds past.0)
 
 -- 17 is given to a 49 with a place alone, and only where an earlier 49 of its transaction has that place: one without a place clashes with nothing, and nothing with it
-pub unplaced_never_clash : (day : ProcessDay) (b : List ℕ) (i k : ℕ) → check_of day b ≡ refused 17 0 i k → At49 (records_of b) i Clash
-unplaced_never_clash day b i k e = clash_at File (records_of b) i k (of_file day b 17 i k refl e)
+pub unplaced_never_clash : (day : ProcessDay) (b : List ℕ) (i k : ℕ) → check_of day b ≡ refused PlaceTaken 0 i k → At49 (records_of b) i Clash
+unplaced_never_clash day b i k e = clash_at File (records_of b) i k (of_file day b PlaceTaken i k refl e)
 
-pub unplaced_in_drafts : (day : ProcessDay) (d : List ℕ) (room i k : ℕ) → close_of day d room ≡ refused 17 0 i k → At49 (records_of d) i Clash
-unplaced_in_drafts day d room i k e = clash_at Draft (records_of d) i k (of_draft day d room 17 i k refl e)
+pub unplaced_in_drafts : (day : ProcessDay) (d : List ℕ) (room i k : ℕ) → close_of day d room ≡ refused PlaceTaken 0 i k → At49 (records_of d) i Clash
+unplaced_in_drafts day d room i k e = clash_at Draft (records_of d) i k (of_draft day d room PlaceTaken i k refl e)
 
 -- 23 is given to a 49 alone, and only where its transaction has 42 of them before it; one of the 43 is without a place
-pub full_at_42 : (day : ProcessDay) (b : List ℕ) (i k : ℕ) → check_of day b ≡ refused 23 0 i k → At49 (records_of b) i OneTooMany
-full_at_42 day b i k e = full_at File (records_of b) i k (of_file day b 23 i k refl e)
+pub full_at_42 : (day : ProcessDay) (b : List ℕ) (i k : ℕ) → check_of day b ≡ refused MessageFull 0 i k → At49 (records_of b) i OneTooMany
+full_at_42 day b i k e = full_at File (records_of b) i k (of_file day b MessageFull i k refl e)
 
-pub full_in_drafts : (day : ProcessDay) (d : List ℕ) (room i k : ℕ) → close_of day d room ≡ refused 23 0 i k → At49 (records_of d) i OneTooMany
-full_in_drafts day d room i k e = full_at Draft (records_of d) i k (of_draft day d room 23 i k refl e)
+pub full_in_drafts : (day : ProcessDay) (d : List ℕ) (room i k : ℕ) → close_of day d room ≡ refused MessageFull 0 i k → At49 (records_of d) i OneTooMany
+full_in_drafts day d room i k e = full_at Draft (records_of d) i k (of_draft day d room MessageFull i k refl e)
 
 -- behind 42 of them no 49 is sound: 17 where its place is taken, else 23
 pub forty_third : (m : Mode) (w : Window) (f g : Totals) (ks ls : List ℕ) (a : Assignment) (rs : List (List ℕ)) (r : List ℕ) → Meets m w f ks a rs → FullMessage rs
     → may_follow m (turns a rs) R49 ≡ true → AllHold g ls r (up_to_column (turns a rs) r)
-    → (first_fault g ls r (record49 (turns a rs) r) ≡ Fault 17 7) ⊎ (first_fault g ls r (record49 (turns a rs) r) ≡ Fault 23 7)
+    → (first_fault g ls r (record49 (turns a rs) r) ≡ Err (fault PlaceTaken 7)) ⊎ (first_fault g ls r (record49 (turns a rs) r) ≡ Err (fault MessageFull 7))
 forty_third m w f g ks ls a rs r h full may held = go (clashes_in (turns a rs).places r) refl
   where
     filled : most_in_message ≤ used (turns a rs).places
     filled = omega (arith, full.count, used_is m w a rs full.last f ks h may)
 
-    go : (b : Bool) → clashes_in (turns a rs).places r ≡ b → (first_fault g ls r (record49 (turns a rs) r) ≡ Fault 17 7) ⊎ (first_fault g ls r (record49 (turns a rs) r) ≡ Fault 23 7)
+    go : (b : Bool) → clashes_in (turns a rs).places r ≡ b → (first_fault g ls r (record49 (turns a rs) r) ≡ Err (fault PlaceTaken 7)) ⊎ (first_fault g ls r (record49 (turns a rs) r) ≡ Err (fault MessageFull 7))
     go true e = inl (place_repeated g ls r (turns a rs) held e)
     go false e = inr (message_full g ls r (turns a rs) held e filled)

@@ -1,5 +1,6 @@
 -- The places of a message, in a file or a draft of either service: no two 49s of a transaction take one place, and there are at most 42 of them. A place that is taken gives 17 at field 7, a message that is full 23.
 -- Assumes nothing.
+use Rattle.std.proofs.Common.{Ok, Err}
 use Prim.Native.Nat.{ℕ, ◌≤◌}
 use mathlib.Core.Logic.{◌⊎◌, inl, inr}
 use mathlib.Core.Path.{◌≡◌, refl, sym, ap, ap₂, subst, ◌∙◌}
@@ -18,8 +19,6 @@ use Rattle.services.specs.declared.Service.{Service}
 use Rattle.layout.specs.Rules.{textual, zeros}
 use Rattle.layout.specs.Findings.{or_else}
 use Rattle.layout.specs.Rows.{Row, first_fault, AllHold}
-use Rattle.layout.specs.declared.Finding.{Finding}
-use Rattle.layout.specs.declared.Finding.TheVariants.{Fault}
 use Rattle.layout.proofs.Laws.{pieces, sound_of_all}
 use Rattle.rules.specs.Codes.{kind_of, service_code}
 use Rattle.rules.specs.Fields.{on, message_of}
@@ -33,7 +32,6 @@ use Rattle.rules.specs.declared.Assignment.{Assignment}
 use Rattle.rules.specs.declared.Kind.{Kind}
 use Rattle.rules.specs.declared.Kind.TheVariants.{R10, R20, R30, R31, R40, R41, R49, R50, R88, R89, Other}
 use Rattle.rules.specs.declared.Mode.{Mode}
-use Rattle.rules.specs.declared.Verdict.TheVariants.{Accepted}
 use Rattle.rules.proofs.Free.{clash, full}
 use Rattle.rules.proofs.Mask.{taken_after}
 use Rattle.operations.specs.Closing.{close_of}
@@ -43,6 +41,9 @@ use Rattle.laws.proofs.Closing.{draft_closes_exactly}
 use Rattle.laws.proofs.Demand2.{accepting}
 use Rattle.laws.proofs.Sound.{meets_split}
 use Rattle.laws.proofs.Transactions.{Outside, Limited, free_in, outside_on, of_service, free, inside, within_limit}
+use Rattle.layout.specs.Findings.{Finding, fault}
+use Rattle.layout.specs.declared.Reason.TheVariants.{PlaceTaken, MessageFull}
+use Rattle.layout.specs.declared.Reason.{Reason}
 
 -- what a 49 left in an assignment of this service, its place if it has one (t); or no transaction has begun since a 20 or a 10
 record Taken (v : Service) (t : Bool) (p : ℕ) (a : Assignment) : Type 0 where
@@ -115,10 +116,10 @@ apart m w f ks a rs r s h t =
     walked m w st.service r s (of_service m w _ _ st r t.first met.0) t.second t.between t.behind _ _ _ met.1 t.one (inl took)
 
 -- in an accepted file, and in a draft that is closed, two 49s of a transaction have different places, whatever the service
-pub places_both_services : (day : ProcessDay) (b : List ℕ) (t : Totals) → check_of day b ≡ Accepted t → (r s : List ℕ) → SameTransaction (records_of b) r s → Apart r s
+pub places_both_services : (day : ProcessDay) (b : List ℕ) (t : Totals) → check_of day b ≡ Ok t → (r s : List ℕ) → SameTransaction (records_of b) r s → Apart r s
 places_both_services day b t e r s h = let v = accepting day b t e in apart _ v.window none [] start.assignment (records_of b) r s v.ran.meets h
 
-pub places_in_drafts : (day : ProcessDay) (d : List ℕ) (room : ℕ) (t : Totals) → close_of day d room ≡ Accepted t → (r s : List ℕ) → SameTransaction (records_of d) r s → Apart r s
+pub places_in_drafts : (day : ProcessDay) (d : List ℕ) (room : ℕ) (t : Totals) → close_of day d room ≡ Ok t → (r s : List ℕ) → SameTransaction (records_of d) r s → Apart r s
 places_in_drafts day d room t e r s h = let v = ((draft_closes_exactly day d room).0 (t, e)).0 in apart _ v.window none [] start.assignment (records_of d) r s v.meets h
 
 -- the rows of a 49 up to its column, and that they hold
@@ -127,7 +128,7 @@ up_to_column a r = repeats a r ++ notification49 (service_code r) ++ (on (messag
 
 module _ (f : Totals) (ks r : List ℕ) (a : Assignment) (h : AllHold f ks r (up_to_column a r)) where
   -- then the table gives what line and column find of the message
-  behind_column : (n : ℕ) → first_fault f ks r (free_in a.places r) ≡ Fault n 7 → first_fault f ks r (record49 a r) ≡ Fault n 7
+  behind_column : (n : Reason) → first_fault f ks r (free_in a.places r) ≡ Err (fault n 7) → first_fault f ks r (record49 a r) ≡ Err (fault n 7)
   behind_column n e =
       let m = message_of (service_code r) in
       let code = notification49 (service_code r) in
@@ -142,12 +143,12 @@ module _ (f : Totals) (ks r : List ℕ) (a : Assignment) (h : AllHold f ks r (up
       ∙ ap (λ (x : Finding). or_else x (first_fault f ks r rest)) e
 
   -- a place that is taken gives 17 at field 7, whatever the service
-  pub place_repeated : clashes_in a.places r ≡ true → first_fault f ks r (record49 a r) ≡ Fault 17 7
-  place_repeated c = behind_column 17 (clash a.places _ _ f ks r c)
+  pub place_repeated : clashes_in a.places r ≡ true → first_fault f ks r (record49 a r) ≡ Err (fault PlaceTaken 7)
+  place_repeated c = behind_column PlaceTaken (clash a.places _ _ f ks r c)
 
   -- a full message gives 23 at field 7, but where the place is taken too
-  pub message_full : clashes_in a.places r ≡ false → most_in_message ≤ used a.places → first_fault f ks r (record49 a r) ≡ Fault 23 7
-  message_full p l = behind_column 23 (full a.places _ _ f ks r p l)
+  pub message_full : clashes_in a.places r ≡ false → most_in_message ≤ used a.places → first_fault f ks r (record49 a r) ≡ Err (fault MessageFull 7)
+  message_full p l = behind_column MessageFull (full a.places _ _ f ks r p l)
 
 -- ---- at most 42
 few : (m : Mode) (w : Window) (f : Totals) (ks : List ℕ) (a : Assignment) (rs within : List (List ℕ)) → Meets m w f ks a rs → Stretch rs within → count49 within ≤ most_in_message
@@ -158,9 +159,9 @@ few m w f ks a rs within h t = go (turns a t.before) (within_limit m w _ _ _ wit
     go st (inr l) = omega (arith, l)
 
 -- a transaction of an accepted file, and of a draft that is closed, has at most 42 records 49, placed or not
-pub at_most_42 : (day : ProcessDay) (b : List ℕ) (t : Totals) → check_of day b ≡ Accepted t → (within : List (List ℕ)) → Stretch (records_of b) within → count49 within ≤ most_in_message
+pub at_most_42 : (day : ProcessDay) (b : List ℕ) (t : Totals) → check_of day b ≡ Ok t → (within : List (List ℕ)) → Stretch (records_of b) within → count49 within ≤ most_in_message
 at_most_42 day b t e within h = let v = accepting day b t e in few _ v.window none [] start.assignment (records_of b) within v.ran.meets h
 
-pub at_most_42_in_drafts : (day : ProcessDay) (d : List ℕ) (room : ℕ) (t : Totals) → close_of day d room ≡ Accepted t → (within : List (List ℕ)) → Stretch (records_of d) within
+pub at_most_42_in_drafts : (day : ProcessDay) (d : List ℕ) (room : ℕ) (t : Totals) → close_of day d room ≡ Ok t → (within : List (List ℕ)) → Stretch (records_of d) within
     → count49 within ≤ most_in_message
 at_most_42_in_drafts day d room t e within h = let v = ((draft_closes_exactly day d room).0 (t, e)).0 in few _ v.window none [] start.assignment (records_of d) within v.meets h

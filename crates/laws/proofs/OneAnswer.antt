@@ -4,12 +4,12 @@ use Prim.Native.Nat.{ℕ}
 use mathlib.Core.Path.{◌≡◌, sym, ◌∙◌}
 use mathlib.Core.List.{List}
 use Rattle.dates.specs.declared.ProcessDay.{ProcessDay}
-use Rattle.rules.specs.declared.Verdict.{Verdict}
 use Rattle.rules.specs.declared.Kind.{Kind}
 use Rattle.operations.specs.Making.{Put}
-use Rattle.operations.specs.declared.Making.{Making}
-use Rattle.operations.specs.declared.Parting.{Parting}
 use Rattle.operations.specs.Promises.{CheckPromise, ClosePromise, JoinPromise, PartPromise, MakePromise, CheckNumbers, CloseNumbers, JoinNumbers, PartNumbers, MakeNumbers}
+use Rattle.operations.specs.Making.{Making}
+use Rattle.operations.specs.Parting.{Parting}
+use Rattle.rules.specs.Refusals.{Verdict}
 
 module _ (day : ProcessDay) (file : List ℕ) (x y : Verdict) where
   pub one_answer_check : CheckPromise day file x → CheckPromise day file y → x ≡ y

@@ -9,23 +9,18 @@ use native.Mathlib.Omega.{arith}
 use borrow.Author.Tests.{leb-true, leb-false, le-leb, lt-leb, ltb-true, ltb-false, lt-ltb, le-ltb}
 use lib.Dec.{leb, ltb}
 use lib.ListN.{length, drop, length-append}
-use Rattle.std.specs.Prelude.{if◌then◌else◌}
+use Rattle.std.specs.Prelude.{if◌then◌else◌, Some, Ok, Err}
 use Rattle.fields.proofs.Tests.{and_both}
 use Rattle.dates.specs.Windows.{window_of}
 use Rattle.dates.specs.declared.ProcessDay.{ProcessDay}
 use Rattle.dates.specs.declared.Window.{Window}
-use Rattle.dates.specs.declared.Opening.TheVariants.{Open}
 use Rattle.figures.specs.declared.counts.Count.{Count}
 use Rattle.figures.specs.declared.totals.Totals.{Totals}
 use Rattle.limits.specs.Limits.{record_bytes}
 use Rattle.rules.specs.Run.{check_of}
 use Rattle.rules.specs.declared.Refusal.{Refusal}
-use Rattle.rules.specs.declared.Verdict.{Verdict}
-use Rattle.rules.specs.declared.Verdict.TheVariants.{Accepted, Refused}
 use Rattle.operations.specs.Joining.{both, join_of, joined_file}
 use Rattle.operations.specs.Parting.{first_part, second_part, of_check, not_parted, no_boundary, Refuses, part_of, lent_parted, parted_first, parted_second}
-use Rattle.operations.specs.declared.Parting.{Parting}
-use Rattle.operations.specs.declared.Parting.TheVariants.{Parted, NoBoundary, NotParted}
 use Rattle.laws.specs.View.{figures_of}
 use Rattle.laws.specs.Joinable.{BothAccepted}
 use Rattle.laws.specs.Partable.{Boundary, PartRefusing, own_refusal, no_such_boundary, short_parts, PartsAccepted}
@@ -33,6 +28,10 @@ use Rattle.laws.proofs.Demand2.{accepting}
 use Rattle.laws.proofs.Made.{file_of, View, view, both_are}
 use Rattle.laws.proofs.Joined.{view_checks, view_length, view_body, view_head, view_records, joinable, file_joined, accepts}
 use Rattle.laws.proofs.Cuts.{first_of, others_of, CutBody, cut_body}
+use Rattle.operations.specs.Parting.{Parting}
+use Rattle.rules.specs.Refusals.{Verdict}
+use Rattle.operations.specs.declared.NotParted.TheVariants.{NoBoundary, Refused}
+use Rattle.layout.specs.declared.Reason.TheVariants.{NoRoom}
 
 -- ---- what parting answers
 first_fails : (p q : Bool) → p ≡ false → p && q ≡ false
@@ -48,42 +47,42 @@ boundary k t h = and_both _ _ (le-leb 1 k h.some) (lt-ltb k t.assignments.0 h.ot
 module _ (day : ProcessDay) (b : List ℕ) (k room1 room2 : ℕ) where
   -- the two tests: a boundary, and room for both parts
   abbrev tested : Totals → Bool → Bool → Parting
-  tested t c d = if c then (if d then Parted (length (first_part k b)) (length (second_part k b)) else not_parted 19) else NoBoundary t.assignments
+  tested t c d = if c then (if d then Ok ((length (first_part k b)), (length (second_part k b))) else not_parted NoRoom) else Err (NoBoundary t.assignments)
 
-  part_is : (t : Totals) (c d : Bool) → check_of day b ≡ Accepted t → leb 1 k && ltb k t.assignments.0 ≡ c
+  part_is : (t : Totals) (c d : Bool) → check_of day b ≡ Ok t → leb 1 k && ltb k t.assignments.0 ≡ c
       → leb (length (first_part k b)) room1 && leb (length (second_part k b)) room2 ≡ d → part_of day b k room1 room2 ≡ tested t c d
   unfolding part_of
   part_is t c d e p q =
       ap (λ (v : Verdict). of_check v (λ t. tested t (leb 1 k && ltb k t.assignments.0) (leb (length (first_part k b)) room1 && leb (length (second_part k b)) room2))) e
       ∙ (λ i. tested t (p i) (q i))
 
-  own_is : (x : Refusal) → check_of day b ≡ Refused x → part_of day b k room1 room2 ≡ NotParted x
+  own_is : (x : Refusal) → check_of day b ≡ Err x → part_of day b k room1 room2 ≡ Err (Refused x)
   unfolding part_of
   own_is x e = ap (λ (v : Verdict). of_check v (λ t. tested t (leb 1 k && ltb k t.assignments.0) (leb (length (first_part k b)) room1 && leb (length (second_part k b)) room2))) e
 
   data Answer : Parting → Type 0 where
-    parted : (t : Totals) → check_of day b ≡ Accepted t → Boundary k t → length (first_part k b) ≤ room1 → length (second_part k b) ≤ room2 → Answer (Parted (length (first_part k b)) (length (second_part k b)))
-    unbounded : (t : Totals) → check_of day b ≡ Accepted t → PartRefusing day b k room1 room2 no_boundary → Answer (NoBoundary t.assignments)
-    is_not_parted : (x : Refusal) → PartRefusing day b k room1 room2 x → Answer (NotParted x)
+    parted : (t : Totals) → check_of day b ≡ Ok t → Boundary k t → length (first_part k b) ≤ room1 → length (second_part k b) ≤ room2 → Answer (Ok ((length (first_part k b)), (length (second_part k b))))
+    unbounded : (t : Totals) → check_of day b ≡ Ok t → PartRefusing day b k room1 room2 no_boundary → Answer (Err (NoBoundary t.assignments))
+    is_not_parted : (x : Refusal) → PartRefusing day b k room1 room2 x → Answer (Err (Refused x))
 
   answer : Answer (part_of day b k room1 room2)
   answer = go (check_of day b) refl
     where
-      rooms : (t : Totals) (x y : Bool) → check_of day b ≡ Accepted t → Boundary k t → leb (length (first_part k b)) room1 ≡ x → leb (length (second_part k b)) room2 ≡ y
+      rooms : (t : Totals) (x y : Bool) → check_of day b ≡ Ok t → Boundary k t → leb (length (first_part k b)) room1 ≡ x → leb (length (second_part k b)) room2 ≡ y
           → Answer (tested t true (x && y))
       rooms t true true e h p q = parted t e h (leb-true _ _ p) (leb-true _ _ q)
       rooms t true false e h p q = is_not_parted _ (short_parts t e h (inr (leb-false _ _ q)))
       rooms t false y e h p q = is_not_parted _ (short_parts t e h (inl (leb-false _ _ p)))
 
-      bounds : (t : Totals) (x y : Bool) → check_of day b ≡ Accepted t → leb 1 k ≡ x → ltb k t.assignments.0 ≡ y
+      bounds : (t : Totals) (x y : Bool) → check_of day b ≡ Ok t → leb 1 k ≡ x → ltb k t.assignments.0 ≡ y
           → Answer (tested t (x && y) (leb (length (first_part k b)) room1 && leb (length (second_part k b)) room2))
       bounds t true true e p q = rooms t _ _ e record { some = leb-true _ _ p; others = ltb-true _ _ q } refl refl
       bounds t true false e p q = unbounded t e (no_such_boundary t e (inr (ltb-false _ _ q)))
       bounds t false y e p q = let z = leb-false 1 k p in unbounded t e (no_such_boundary t e (inl (omega (arith, z))))
 
       go : (v : Verdict) → check_of day b ≡ v → Answer (part_of day b k room1 room2)
-      go (Accepted t) e = subst Answer (sym (part_is t _ _ e refl refl)) (bounds t _ _ e refl refl)
-      go (Refused x) e = subst Answer (sym (own_is x e)) (is_not_parted x (own_refusal x e))
+      go (Ok t) e = subst Answer (sym (part_is t _ _ e refl refl)) (bounds t _ _ e refl refl)
+      go (Err x) e = subst Answer (sym (own_is x e)) (is_not_parted x (own_refusal x e))
 
   -- each reason has its answer
   told : (v : Parting) (x : Refusal) → Refuses v x → part_of day b k room1 room2 ≡ v → Refuses (part_of day b k room1 room2) x
@@ -108,36 +107,44 @@ part_order day b k room1 room2 x = (go (part_of day b k room1 room2) (answer day
     go v (is_not_parted y r) e = subst (PartRefusing day b k room1 room2) e r
 
 -- ---- parted exactly
-same_figures : (day : ProcessDay) (b : List ℕ) (t u : Totals) → check_of day b ≡ Accepted t → check_of day b ≡ Accepted u → t ≡ u
+same_figures : (day : ProcessDay) (b : List ℕ) (t u : Totals) → check_of day b ≡ Ok t → check_of day b ≡ Ok u → t ≡ u
 same_figures day b t u e f = cc
 
-module _ (day : ProcessDay) (b : List ℕ) (t : Totals) (k room1 room2 : ℕ) (e : check_of day b ≡ Accepted t) where
-  at_boundary : (n m : ℕ) → part_of day b k room1 room2 ≡ Parted n m → Boundary k t × (length (first_part k b) ≤ room1) × (length (second_part k b) ≤ room2)
+module _ (day : ProcessDay) (b : List ℕ) (t : Totals) (k room1 room2 : ℕ) (e : check_of day b ≡ Ok t) where
+  at_boundary : (n m : ℕ) → part_of day b k room1 room2 ≡ Ok (n, m) → Boundary k t × (length (first_part k b) ≤ room1) × (length (second_part k b) ≤ room2)
   at_boundary n m h = go (part_of day b k room1 room2) (answer day b k room1 room2) h
     where
-      go : (v : Parting) → Answer day b k room1 room2 v → v ≡ Parted n m → Boundary k t × (length (first_part k b) ≤ room1) × (length (second_part k b) ≤ room2)
+      go : (v : Parting) → Answer day b k room1 room2 v → v ≡ Ok (n, m) → Boundary k t × (length (first_part k b) ≤ room1) × (length (second_part k b) ≤ room2)
       go v (parted u f h p q) z = (subst (Boundary k) (same_figures day b u t f e) h, p, q)
       go v (unbounded u f r) z = absurd (let x : ◌≡◌ {A = ℕ} 0 1 = cc in omega arith)
       go v (is_not_parted y r) z = absurd (let x : ◌≡◌ {A = ℕ} 0 1 = cc in omega arith)
 
   -- an accepted file, with room enough, is parted exactly where k and what is left are assignments of it
-  pub parted_exactly : length (first_part k b) ≤ room1 → length (second_part k b) ≤ room2 → (part_of day b k room1 room2 ≡ Parted (length (first_part k b)) (length (second_part k b))) ↔ Boundary k t
+  pub parted_exactly : length (first_part k b) ≤ room1 → length (second_part k b) ≤ room2 → (part_of day b k room1 room2 ≡ Ok ((length (first_part k b)), (length (second_part k b)))) ↔ Boundary k t
   parted_exactly p q = (λ h. (at_boundary _ _ h).0, λ h. part_is day b k room1 room2 t _ _ e (boundary k t h) (and_both _ _ (le-leb _ _ p) (le-leb _ _ q)))
 
+abbrev first_size : Parting → ℕ
+first_size (Ok sizes) = sizes.0
+first_size (Err e) = 0
+
+abbrev second_size : Parting → ℕ
+second_size (Ok sizes) = sizes.1
+second_size (Err e) = 0
+
 -- the answer's numbers: how long the two parts are, each within its output, and how many assignments the file has where k is no boundary of it
-pub part_lengths : (day : ProcessDay) (b : List ℕ) (k room1 room2 n m : ℕ) → part_of day b k room1 room2 ≡ Parted n m
+pub part_lengths : (day : ProcessDay) (b : List ℕ) (k room1 room2 n m : ℕ) → part_of day b k room1 room2 ≡ Ok (n, m)
     → (n ≡ length (first_part k b)) × (m ≡ length (second_part k b)) × (length (first_part k b) ≤ room1) × (length (second_part k b) ≤ room2)
 part_lengths day b k room1 room2 n m = go (part_of day b k room1 room2) (answer day b k room1 room2)
   where
-    go : (v : Parting) → Answer day b k room1 room2 v → v ≡ Parted n m → (n ≡ length (first_part k b)) × (m ≡ length (second_part k b)) × (length (first_part k b) ≤ room1) × (length (second_part k b) ≤ room2)
-    go v (parted u f h p q) z = (cc, cc, p, q)
+    go : (v : Parting) → Answer day b k room1 room2 v → v ≡ Ok (n, m) → (n ≡ length (first_part k b)) × (m ≡ length (second_part k b)) × (length (first_part k b) ≤ room1) × (length (second_part k b) ≤ room2)
+    go v (parted u f h p q) z = (sym (ap first_size z), sym (ap second_size z), p, q)
     go v (unbounded u f r) z = absurd (let x : ◌≡◌ {A = ℕ} 0 1 = cc in omega arith)
     go v (is_not_parted y r) z = absurd (let x : ◌≡◌ {A = ℕ} 0 1 = cc in omega arith)
 
-pub part_assignments : (day : ProcessDay) (b : List ℕ) (t : Totals) (k room1 room2 : ℕ) (c : Count) → check_of day b ≡ Accepted t → part_of day b k room1 room2 ≡ NoBoundary c → c ≡ t.assignments
+pub part_assignments : (day : ProcessDay) (b : List ℕ) (t : Totals) (k room1 room2 : ℕ) (c : Count) → check_of day b ≡ Ok t → part_of day b k room1 room2 ≡ Err (NoBoundary c) → c ≡ t.assignments
 part_assignments day b t k room1 room2 c e = go (part_of day b k room1 room2) (answer day b k room1 room2)
   where
-    go : (v : Parting) → Answer day b k room1 room2 v → v ≡ NoBoundary c → c ≡ t.assignments
+    go : (v : Parting) → Answer day b k room1 room2 v → v ≡ Err (NoBoundary c) → c ≡ t.assignments
     go v (parted u f h p q) z = absurd (let x : ◌≡◌ {A = ℕ} 0 1 = cc in omega arith)
     go v (unbounded u f r) z = cc
     go v (is_not_parted y r) z = absurd (let x : ◌≡◌ {A = ℕ} 0 1 = cc in omega arith)
@@ -161,7 +168,7 @@ module _ (w : Window) (b : List ℕ) (t : Totals) (k : ℕ) (v : View w b t) (h 
   abbrev second_view : View w (second_part k b) (figures_of (others_of k v.body))
   second_view = record { head = v.head; body = others_of k v.body; good = cut.cut.back; bytes = parts_are.1; figures = refl }
 
-  parts_accepted : (day : ProcessDay) → window_of day ≡ Open w → PartsAccepted day b k t
+  parts_accepted : (day : ProcessDay) → window_of day ≡ Some w → PartsAccepted day b k t
   parts_accepted day o =
       let x = figures_of (first_of k v.body) in
       let y = figures_of (others_of k v.body) in
@@ -185,8 +192,8 @@ module _ (w : Window) (b : List ℕ) (t : Totals) (k : ℕ) (v : View w b t) (h 
       }
 
   -- and joined they are the file again
-  joins_again : (day : ProcessDay) (room : ℕ) → window_of day ≡ Open w → length b ≤ room
-      → (join_of day (first_part k b) (second_part k b) room ≡ Accepted t) × (joined_file (first_part k b) (second_part k b) t ≡ b)
+  joins_again : (day : ProcessDay) (room : ℕ) → window_of day ≡ Some w → length b ≤ room
+      → (join_of day (first_part k b) (second_part k b) room ≡ Ok t) × (joined_file (first_part k b) (second_part k b) t ≡ b)
   joins_again day room o fits =
       let x = figures_of (first_of k v.body) in
       let y = figures_of (others_of k v.body) in
@@ -196,7 +203,7 @@ module _ (w : Window) (b : List ℕ) (t : Totals) (k : ℕ) (v : View w b t) (h 
         first = view_checks w (first_part k b) x first_view day o;
         second = view_checks w (second_part k b) y second_view day o;
       } in (
-        accepts day (first_part k b) (second_part k b) room x y c j (omega (arith, ap (λ (z : Totals). z.records.0) u, view_length w b t v, fits)) ∙ ap Accepted u,
+        accepts day (first_part k b) (second_part k b) room x y c j (omega (arith, ap (λ (z : Totals). z.records.0) u, view_length w b t v, fits)) ∙ ap Ok u,
         ap (joined_file (first_part k b) (second_part k b)) (sym u)
             ∙ file_joined w (first_part k b) (second_part k b) x y first_view second_view j
             ∙ ap (file_of v.head) cut.whole
@@ -204,7 +211,7 @@ module _ (w : Window) (b : List ℕ) (t : Totals) (k : ℕ) (v : View w b t) (h 
       )
 
 -- ---- THE THEOREMS
-module _ (day : ProcessDay) (b : List ℕ) (t : Totals) (k room1 room2 n m : ℕ) (e : check_of day b ≡ Accepted t) (h : part_of day b k room1 room2 ≡ Parted n m) where
+module _ (day : ProcessDay) (b : List ℕ) (t : Totals) (k room1 room2 n m : ℕ) (e : check_of day b ≡ Ok t) (h : part_of day b k room1 room2 ≡ Ok (n, m)) where
   -- both parts of a parted file are accepted, the first with k assignments, the second with the others
   pub parted_accepted : PartsAccepted day b k t
   parted_accepted =
@@ -216,32 +223,32 @@ module _ (day : ProcessDay) (b : List ℕ) (t : Totals) (k room1 room2 n m : ℕ
   parted_fits = let v = at_boundary day b t k room1 room2 e n m h in (parted_accepted.both_lengths, v.1, v.2)
 
 -- outputs as long as the file are always enough
-pub part_room_enough : (day : ProcessDay) (b : List ℕ) (t : Totals) (k room1 room2 : ℕ) → check_of day b ≡ Accepted t → Boundary k t → length b ≤ room1 → length b ≤ room2
-    → part_of day b k room1 room2 ≡ Parted (length (first_part k b)) (length (second_part k b))
+pub part_room_enough : (day : ProcessDay) (b : List ℕ) (t : Totals) (k room1 room2 : ℕ) → check_of day b ≡ Ok t → Boundary k t → length b ≤ room1 → length b ≤ room2
+    → part_of day b k room1 room2 ≡ Ok ((length (first_part k b)), (length (second_part k b)))
 part_room_enough day b t k room1 room2 e h p q =
     let a = accepting day b t e in
     let c = parts_accepted a.window b t k (view day a.window b t a.opened e) h day a.opened in
     (parted_exactly day b t k room1 room2 e (omega (arith, p, c.first_shorter)) (omega (arith, q, c.second_shorter))).1 h
 
 -- a file parted and joined again is the file, with its figures
-pub parted_joins : (day : ProcessDay) (b : List ℕ) (t : Totals) (k room : ℕ) → check_of day b ≡ Accepted t → 1 ≤ k → k < t.assignments.0 → length b ≤ room
-    → (join_of day (first_part k b) (second_part k b) room ≡ Accepted t) × (joined_file (first_part k b) (second_part k b) t ≡ b)
+pub parted_joins : (day : ProcessDay) (b : List ℕ) (t : Totals) (k room : ℕ) → check_of day b ≡ Ok t → 1 ≤ k → k < t.assignments.0 → length b ≤ room
+    → (join_of day (first_part k b) (second_part k b) room ≡ Ok t) × (joined_file (first_part k b) (second_part k b) t ≡ b)
 parted_joins day b t k room e p q fits =
     let a = accepting day b t e in
     joins_again a.window b t k (view day a.window b t a.opened e) record { some = p; others = q } day room a.opened fits
 
 -- ---- the lent outputs
 -- each part lies over the start of its output, and the bytes behind it stay
-pub parted_bytes : (day : ProcessDay) (b : List ℕ) (k : ℕ) (out1 out2 : List ℕ) (n m : ℕ) → part_of day b k (length out1) (length out2) ≡ Parted n m
+pub parted_bytes : (day : ProcessDay) (b : List ℕ) (k : ℕ) (out1 out2 : List ℕ) (n m : ℕ) → part_of day b k (length out1) (length out2) ≡ Ok (n, m)
     → (parted_first day b k out1 out2 ≡ first_part k b ++ drop (length (first_part k b)) out1) × (parted_second day b k out1 out2 ≡ second_part k b ++ drop (length (second_part k b)) out2)
 unfolding parted_first parted_second lent_parted
 parted_bytes day b k out1 out2 n m e = (ap (λ (x : Parting). lent_parted x (first_part k b) out1) e, ap (λ (x : Parting). lent_parted x (second_part k b) out2) e)
 
 untouched : (p : Parting) (x : Refusal) → Refuses p x → (written before : List ℕ) → lent_parted p written before ≡ before
 unfolding Refuses lent_parted
-untouched (Parted n m) x h written before = absurd h
-untouched (NoBoundary c) x h written before = refl
-untouched (NotParted y) x h written before = refl
+untouched (Ok e) x h written before = absurd h
+untouched (Err (NoBoundary c)) x h written before = refl
+untouched (Err (Refused y)) x h written before = refl
 
 -- a refusal changes neither
 pub part_refused : (day : ProcessDay) (b : List ℕ) (k : ℕ) (out1 out2 : List ℕ) (x : Refusal) → Refuses (part_of day b k (length out1) (length out2)) x

@@ -1,5 +1,6 @@
 -- What each operation answers is how much of an output a caller keeps: these bytes, all of them, are the file, and in a program in C they are told by number.
 -- Assumes nothing.
+use Rattle.std.proofs.Common.{Ok, Err}
 use Prim.Native.Nat.{ℕ, ◌≤◌}
 use mathlib.Core.Path.{◌≡◌, refl, sym, ap, subst, ◌∙◌}
 use mathlib.Core.List.{List, ◌++◌}
@@ -9,19 +10,18 @@ use lib.Seq.{take_at}
 use Rattle.dates.specs.declared.ProcessDay.{ProcessDay}
 use Rattle.figures.specs.declared.totals.Totals.{Totals}
 use Rattle.rules.specs.declared.Refusal.{Refusal}
-use Rattle.rules.specs.declared.Verdict.{Verdict}
-use Rattle.rules.specs.declared.Verdict.TheVariants.{Accepted, Refused}
 use Rattle.operations.specs.Answers.{refused_numbers, accepted_numbers, written_numbers, parted_numbers}
 use Rattle.operations.specs.Closing.{file_bytes, close_of, closed_file}
 use Rattle.operations.specs.Joining.{join_of, joined_file, answered_figures}
 use Rattle.operations.specs.Parting.{no_boundary, part_of, first_part, second_part}
 use Rattle.operations.specs.Promises.{ClosePromise, JoinPromise, PartPromise, CloseNumbers, JoinNumbers, PartNumbers}
-use Rattle.operations.specs.declared.Parting.{Parting}
-use Rattle.operations.specs.declared.Parting.TheVariants.{Parted, NoBoundary, NotParted}
 use Rattle.laws.specs.Saved.{Saved, place}
 use Rattle.laws.proofs.Closing.{closed_fits, closed_bytes_lem}
 use Rattle.laws.proofs.Joining.{joined_fits, joined_bytes_lem}
 use Rattle.laws.proofs.Parting.{part_lengths, parted_bytes}
+use Rattle.operations.specs.Parting.{Parting}
+use Rattle.rules.specs.Refusals.{Verdict}
+use Rattle.operations.specs.declared.NotParted.TheVariants.{NoBoundary, Refused}
 
 -- an output that was written over its start
 over_start : (file before after : List ℕ) (n : ℕ) → after ≡ file ++ drop (length file) before → length file ≤ length before → n ≡ length file → Saved n file after
@@ -30,19 +30,19 @@ over_start file before after n e l m =
     record { long = m; fits = omega (arith, m, s); saved = ap (take n) e ∙ take_at file (drop (length file) before) n (sym m) }
 
 -- ---- THE THEOREMS
-pub closed_saved : (day : ProcessDay) (d before after : List ℕ) (v : Verdict) (t : Totals) → ClosePromise day d before v after → v ≡ Accepted t → Saved (file_bytes t) (closed_file d) after
+pub closed_saved : (day : ProcessDay) (d before after : List ℕ) (v : Verdict) (t : Totals) → ClosePromise day d before v after → v ≡ Ok t → Saved (file_bytes t) (closed_file d) after
 closed_saved day d before after v t p q =
     let e = sym p.answers ∙ q in
     let f = closed_fits day d (length before) t e in
     over_start (closed_file d) before after (file_bytes t) (p.leaves ∙ closed_bytes_lem day d before t e) f.1 (sym f.0)
 
-pub joined_saved : (day : ProcessDay) (a b before after : List ℕ) (v : Verdict) (t : Totals) → JoinPromise day a b before v after → v ≡ Accepted t → Saved (file_bytes t) (joined_file a b t) after
+pub joined_saved : (day : ProcessDay) (a b before after : List ℕ) (v : Verdict) (t : Totals) → JoinPromise day a b before v after → v ≡ Ok t → Saved (file_bytes t) (joined_file a b t) after
 joined_saved day a b before after v t p q =
     let e = sym p.answers ∙ q in
     let f = joined_fits day a b (length before) t e in
     over_start (joined_file a b t) before after (file_bytes t) (p.leaves ∙ joined_bytes_lem day a b before t e) f.1 (sym f.0)
 
-pub parted_saved : (day : ProcessDay) (b : List ℕ) (k : ℕ) (before1 before2 after1 after2 : List ℕ) (x : Parting) (n m : ℕ) → PartPromise day b k before1 before2 x after1 after2 → x ≡ Parted n m
+pub parted_saved : (day : ProcessDay) (b : List ℕ) (k : ℕ) (before1 before2 after1 after2 : List ℕ) (x : Parting) (n m : ℕ) → PartPromise day b k before1 before2 x after1 after2 → x ≡ Ok (n, m)
     → Saved n (first_part k b) after1 × Saved m (second_part k b) after2
 parted_saved day b k before1 before2 after1 after2 x n m p q =
     let e = sym p.answers ∙ q in
@@ -55,19 +55,19 @@ refused_what : (x : Refusal) → place (refused_numbers x) 0 ≡ 0
 unfolding refused_numbers
 refused_what x = refl
 
-told_accepted : (v : Verdict) → place (written_numbers v) 0 ≡ 1 → (v ≡ Accepted (answered_figures v)) × (place (written_numbers v) 10 ≡ file_bytes (answered_figures v))
+told_accepted : (v : Verdict) → place (written_numbers v) 0 ≡ 1 → (v ≡ Ok (answered_figures v)) × (place (written_numbers v) 10 ≡ file_bytes (answered_figures v))
 unfolding written_numbers accepted_numbers
-told_accepted (Accepted t) h = (refl, refl)
-told_accepted (Refused x) h = absurd (let z = refused_what x in omega (arith, z, h))
+told_accepted (Ok t) h = (refl, refl)
+told_accepted (Err x) h = absurd (let z = refused_what x in omega (arith, z, h))
 
 data ToldParted (x : Parting) : Type 0 where
-  told : (n m : ℕ) → x ≡ Parted n m → place (parted_numbers x) 10 ≡ n → place (parted_numbers x) 15 ≡ m → ToldParted x
+  told : (n m : ℕ) → x ≡ Ok (n, m) → place (parted_numbers x) 10 ≡ n → place (parted_numbers x) 15 ≡ m → ToldParted x
 
 parts_told : (x : Parting) → place (parted_numbers x) 0 ≡ 2 → ToldParted x
 unfolding parted_numbers
-parts_told (Parted n m) h = told n m refl refl refl
-parts_told (NoBoundary c) h = absurd (let z = refused_what no_boundary in omega (arith, z, h))
-parts_told (NotParted x) h = absurd (let z = refused_what x in omega (arith, z, h))
+parts_told (Ok e) h = told e.0 e.1 refl refl refl
+parts_told (Err (NoBoundary c)) h = absurd (let z = refused_what no_boundary in omega (arith, z, h))
+parts_told (Err (Refused x)) h = absurd (let z = refused_what x in omega (arith, z, h))
 
 pub told_closed : (day : ProcessDay) (d before answer after : List ℕ) → CloseNumbers day d before answer after → place answer 0 ≡ 1 → Saved (place answer 10) (closed_file d) after
 told_closed day d before answer after p h =

@@ -1,5 +1,6 @@
 -- Parts of an accepted file as a program takes them out: its assignments as one span of bytes, between its first and its last record.
 -- Assumes nothing.
+use Rattle.std.proofs.Common.{Ok}
 use Prim.Native.Nat.{ℕ, zero, suc, ◌-◌, ◌≤◌}
 use mathlib.Core.Path.{◌≡◌, sym, ap, ◌∙◌}
 use mathlib.Core.List.{List, [], ◌∷◌}
@@ -9,7 +10,6 @@ use lib.Seq.{take-nil}
 use Rattle.dates.specs.declared.ProcessDay.{ProcessDay}
 use Rattle.figures.specs.declared.totals.Totals.{Totals}
 use Rattle.rules.specs.Run.{check_of}
-use Rattle.rules.specs.declared.Verdict.TheVariants.{Accepted}
 use Rattle.operations.specs.Joining.{assignments_of}
 use Rattle.laws.proofs.Made.{file_length}
 use Rattle.laws.proofs.View.{viewed}
@@ -27,7 +27,7 @@ pub body_is : (b : List ℕ) → body_in b ≡ assignments_of b
 body_is b = sym (drop_take 81 (length b - 81) b)
 
 -- it has its two ends at least
-pub long_enough : (day : ProcessDay) (b : List ℕ) (t : Totals) → check_of day b ≡ Accepted t → 162 ≤ length b
+pub long_enough : (day : ProcessDay) (b : List ℕ) (t : Totals) → check_of day b ≡ Ok t → 162 ≤ length b
 long_enough day b t e =
     let v = viewed day b t e in
     omega (arith, ap length v.bytes, file_length v.window v.head v.body v.good)

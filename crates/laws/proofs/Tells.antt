@@ -1,5 +1,6 @@
 -- One number stands for two fields, and tells both: agreement and assignment number of a record 20, line and column of a record 49.
 -- Assumes nothing.
+use Rattle.std.proofs.Common.{Some}
 use Prim.Native.Nat.{ℕ, ◌+◌, ◌*◌, ◌-◌, ◌≤◌, ◌<◌}
 use mathlib.Core.Path.{◌≡◌, ap, ◌∙◌}
 use mathlib.Core.Logic.{◌↔◌}
@@ -10,7 +11,6 @@ use borrow.Author.Tests.{leb-true, ltb-true}
 use lib.Dec.{ltb, eqb}
 use lib.ListN.{length}
 use Rattle.fields.specs.Bytes.{every, is_digit, Inside}
-use Rattle.fields.specs.Numbers.{Number}
 use Rattle.fields.proofs.Tests.{and_left, and_right}
 use Rattle.fields.proofs.Values.{number_yes}
 use Rattle.fields.proofs.Width.{value_below, digit_field, part_length}
@@ -33,7 +33,7 @@ agree x r s i j p q e =
     record {
       bytes =
           (digit_field (x.to + 1 - x.from)).one_form (bytes_in x r) (bytes_in x s) (number_in x s) (part_length x.from x.to r i) (part_length x.from x.to s j)
-          (number_yes (bytes_in x r) p ∙ ap Number e) (number_yes (bytes_in x s) q);
+          (number_yes (bytes_in x r) p ∙ ap Some e) (number_yes (bytes_in x s) q);
       numbers = e;
     }
 

@@ -1,5 +1,6 @@
 -- Three accepted files joined, the first two first or the last two first: what either asks is the same, and so is what it gives.
 -- Assumes nothing.
+use Rattle.std.proofs.Common.{Some, Ok}
 use Prim.Native.Nat.{ℕ, ◌*◌, ◌≤◌}
 use mathlib.Core.Path.{◌≡◌, sym, ap, subst, ◌∙◌}
 use mathlib.Core.Logic.{⊎_elim}
@@ -8,11 +9,9 @@ use native.Mathlib.Omega.{arith}
 use Rattle.dates.specs.Windows.{window_of}
 use Rattle.dates.specs.declared.ProcessDay.{ProcessDay}
 use Rattle.dates.specs.declared.Window.{Window}
-use Rattle.dates.specs.declared.Opening.TheVariants.{Open}
 use Rattle.figures.specs.declared.totals.Totals.{Totals}
 use Rattle.limits.specs.Limits.{record_bytes}
 use Rattle.rules.specs.Run.{check_of}
-use Rattle.rules.specs.declared.Verdict.TheVariants.{Accepted}
 use Rattle.operations.specs.Joining.{both, joined_file}
 use Rattle.laws.specs.View.{figures_of}
 use Rattle.laws.specs.Joinable.{In, keys_of, Joinable, room_for, JoinedTo, FirstTwo, LastTwo, Associative}
@@ -100,7 +99,7 @@ module _ (w : Window) (a b c : List ℕ) (s t r : Totals) (va : View w a s) (vb 
       ∙ ap (file_of va.head) (append_assoc va.body vb.body vc.body)
       ∙ sym (file_joined w a (joined_file b c (both t r)) s (both t r) va bc q.outer)
 
-module _ (day : ProcessDay) (w : Window) (a b c : List ℕ) (s t r : Totals) (o : window_of day ≡ Open w) (va : View w a s) (vb : View w b t) (vc : View w c r) where
+module _ (day : ProcessDay) (w : Window) (a b c : List ℕ) (s t r : Totals) (o : window_of day ≡ Some w) (va : View w a s) (vb : View w b t) (vc : View w c r) where
   -- the figures that each joining answers are those of what it is given
   record FirstTold (inner u : Totals) : Type 0 where
     left : Left w a b c s t r va vb vc
@@ -112,19 +111,19 @@ module _ (day : ProcessDay) (w : Window) (a b c : List ℕ) (s t r : Totals) (o 
     inner_is : inner ≡ both t r
     outer_is : u ≡ both s (both t r)
 
-  accepted_a : check_of day a ≡ Accepted s
+  accepted_a : check_of day a ≡ Ok s
   accepted_a = view_checks w a s va day o
 
-  accepted_b : check_of day b ≡ Accepted t
+  accepted_b : check_of day b ≡ Ok t
   accepted_b = view_checks w b t vb day o
 
-  accepted_c : check_of day c ≡ Accepted r
+  accepted_c : check_of day c ≡ Ok r
   accepted_c = view_checks w c r vc day o
 
-  accepted_ab : Joinable a b s t → check_of day (joined_file a b (both s t)) ≡ Accepted (both s t)
+  accepted_ab : Joinable a b s t → check_of day (joined_file a b (both s t)) ≡ Ok (both s t)
   accepted_ab j = view_checks w (joined_file a b (both s t)) (both s t) (joined_view w a b s t va vb j) day o
 
-  accepted_bc : Joinable b c t r → check_of day (joined_file b c (both t r)) ≡ Accepted (both t r)
+  accepted_bc : Joinable b c t r → check_of day (joined_file b c (both t r)) ≡ Ok (both t r)
   accepted_bc j = view_checks w (joined_file b c (both t r)) (both t r) (joined_view w b c t r vb vc j) day o
 
   -- what is joined has room

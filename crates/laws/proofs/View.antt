@@ -1,5 +1,6 @@
 -- The view of demand 3: an accepted file is a record 10, whole assignments and the 89 that follows from them; and what is made so is accepted.
 -- Assumes nothing.
+use Rattle.std.proofs.Common.{Some, Ok}
 use Prim.Native.Nat.{ℕ, ◌+◌, ◌≤◌}
 use mathlib.Core.Path.{◌≡◌, refl, sym, ap, ap₂, subst, ◌∙◌}
 use mathlib.Core.List.{List, [], ◌∷◌, ◌++◌}
@@ -9,7 +10,6 @@ use lib.ListN.{length, length-append}
 use Rattle.dates.specs.Windows.{window_of}
 use Rattle.dates.specs.declared.ProcessDay.{ProcessDay}
 use Rattle.dates.specs.declared.Window.{Window}
-use Rattle.dates.specs.declared.Opening.TheVariants.{Open}
 use Rattle.figures.specs.Totals.{none, ◌⊕◌, one_record}
 use Rattle.figures.specs.declared.totals.Totals.{Totals}
 use Rattle.figures.proofs.Laws.{⊕-assoc, ⊕-none, none-⊕}
@@ -24,7 +24,6 @@ use Rattle.rules.specs.declared.Assignment.{Assignment}
 use Rattle.rules.specs.declared.Kind.{Kind}
 use Rattle.rules.specs.declared.Kind.TheVariants.{R10, R88, R89}
 use Rattle.rules.specs.declared.Mode.TheVariants.{File}
-use Rattle.rules.specs.declared.Verdict.TheVariants.{Accepted}
 use Rattle.operations.specs.Ends.{end89}
 use Rattle.operations.specs.Closing.{bytes_of}
 use Rattle.laws.specs.Meets.{gains, turns, all_keys, Meets, Ends}
@@ -92,7 +91,7 @@ made_length head body = omega (arith, length-append body (end89 (figures_of body
 -- ---- what is accepted has a view
 pub record Viewed (day : ProcessDay) (b : List ℕ) (t : Totals) : Type 0 where
   pub window : Window
-  pub opened : window_of day ≡ Open window
+  pub opened : window_of day ≡ Some window
   pub head : List ℕ
   pub body : List (List ℕ)
   pub good : Good window head body
@@ -138,7 +137,7 @@ parts_of w (r ∷ rs) z n h e =
     let k = first_10 start.assignment (kind_of r) refl h.0.1.0 in
     parts_behind w r rs k h.0 z.0 z.1 (omega (arith, n)) (met_10 w r k rs h) (sym (ap (λ (a : Assignment). is_end a.last) (turns_10 w r k rs)) ∙ e)
 
-pub viewed : (day : ProcessDay) (b : List ℕ) (t : Totals) → check_of day b ≡ Accepted t → Viewed day b t
+pub viewed : (day : ProcessDay) (b : List ℕ) (t : Totals) → check_of day b ≡ Ok t → Viewed day b t
 unfolding may_end
 viewed day b t e =
     let a = accepting day b t e in
@@ -179,8 +178,8 @@ module _ (w : Window) (head : List ℕ) (body : List (List ℕ)) (g : Good w hea
       let e = turns_10 w head g.type (body ++ (end89 (figures_of body) ∷ [])) ∙ turns_join headed body (end89 (figures_of body) ∷ []) in
       subst (Ends File) (sym e) (record { may = ap (λ (k : Kind). is_end (turn_for k (end89 (figures_of body)) (turns headed body)).last) (kind_89 (one_record ⊕ gains body)); gave = refl })
 
-pub view_accepted : (day : ProcessDay) (w : Window) (head : List ℕ) (body : List (List ℕ)) → window_of day ≡ Open w → Good w head body
-    → check_of day (bytes_of (made head body)) ≡ Accepted (figures_of body)
+pub view_accepted : (day : ProcessDay) (w : Window) (head : List ℕ) (body : List (List ℕ)) → window_of day ≡ Some w → Good w head body
+    → check_of day (bytes_of (made head body)) ≡ Ok (figures_of body)
 view_accepted day w head body o g =
     let z = made_sized w head body g in
     let e = records_again (made head body) z in
@@ -193,4 +192,4 @@ view_accepted day w head body o g =
       meets = subst (Meets File w none [] start.assignment) (sym e) (made_meets w head body g);
       ends = subst (λ (rs : List (List ℕ)). Ends File (turns start.assignment rs)) (sym e) (made_ends w head body g);
     }
-    ∙ ap Accepted (ap gains e ∙ made_gains head body g.type)
+    ∙ ap Ok (ap gains e ∙ made_gains head body g.type)

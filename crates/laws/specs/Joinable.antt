@@ -1,10 +1,9 @@
 -- Demand 3, document 01, "Closing, joining, parting": which two files may be joined, why others are not, and in which order that is said.
 -- Assumes nothing.
-use Rattle.std.specs.Prelude.{ℕ, ◌+◌, ◌-◌, ◌*◌, ◌<◌, ◌≤◌, ◌≡◌, ◌⊎◌, ◌↔◌, List, [], ◌∷◌, ◌++◌, length, take}
+use Rattle.std.specs.Prelude.{ℕ, ◌+◌, ◌-◌, ◌*◌, ◌<◌, ◌≤◌, ◌≡◌, ◌⊎◌, ◌↔◌, List, [], ◌∷◌, ◌++◌, length, take, Some, None, Ok, Err}
 use Rattle.dates.specs.Windows.{window_of}
 use Rattle.dates.specs.declared.ProcessDay.{ProcessDay}
 use Rattle.dates.specs.declared.Window.{Window}
-use Rattle.dates.specs.declared.Opening.TheVariants.{Open, NoDay}
 use Rattle.figures.specs.Figures.{limit_wide}
 use Rattle.figures.specs.declared.totals.Totals.{Totals}
 use Rattle.limits.specs.Limits.{record_bytes, most_records, most_assignments}
@@ -12,13 +11,13 @@ use Rattle.rules.specs.Growth.{keys}
 use Rattle.rules.specs.Refusals.{refused}
 use Rattle.rules.specs.Run.{records_of, check_of}
 use Rattle.rules.specs.declared.Refusal.{Refusal}
-use Rattle.rules.specs.declared.Verdict.{Verdict}
-use Rattle.rules.specs.declared.Verdict.TheVariants.{Accepted, Refused}
 use Rattle.operations.specs.Ends.{end89}
 use Rattle.operations.specs.Joining.{sender, both, join_of, joined_file}
 use Rattle.operations.specs.Parting.{body_of}
 use Rattle.laws.specs.Meets.{all_keys}
 use Rattle.laws.specs.Plain.{FiguresOf}
+use Rattle.rules.specs.Refusals.{Verdict}
+use Rattle.layout.specs.declared.Reason.TheVariants.{NoProcessDay, TooManyRecords, PastLimit, KeySeen, TooManyAssignments, NoRoom, OtherSender}
 
 -- the key is one of the list
 unfoldable pub In : ℕ → List ℕ → Type 0
@@ -35,8 +34,8 @@ keys_of b = all_keys (records_of b)
 
 -- both files are accepted
 pub record BothAccepted (day : ProcessDay) (a b : List ℕ) (s t : Totals) : Type 0 where
-  pub first : check_of day a ≡ Accepted s
-  pub second : check_of day b ≡ Accepted t
+  pub first : check_of day a ≡ Ok s
+  pub second : check_of day b ≡ Ok t
 
 -- two files with these figures that may be joined: one sender, no key in both, and no limit passed
 pub record Joinable (a b : List ℕ) (s t : Totals) : Type 0 where
@@ -68,28 +67,28 @@ pub record FirstShared (ks : List ℕ) (rs : List (List ℕ)) (i : ℕ) : Type 0
 
 -- why joining refuses, and with what, in the stated order: each reason comes after all before it
 pub data JoinRefusing (day : ProcessDay) (a b : List ℕ) (room : ℕ) : Verdict → Type 0 where
-  no_day : window_of day ≡ NoDay → JoinRefusing day a b room (refused 1 0 0 0)
-  first_file : (w : Window) (x : Refusal) → window_of day ≡ Open w → check_of day a ≡ Refused x
-      → JoinRefusing day a b room (refused x.number 1 x.«record» x.field)
-  second_file : (w : Window) (s : Totals) (x : Refusal) → window_of day ≡ Open w → check_of day a ≡ Accepted s → check_of day b ≡ Refused x
-      → JoinRefusing day a b room (refused x.number 2 x.«record» x.field)
-  other_sender : (s t : Totals) → BothAccepted day a b s t → (sender a ≡ sender b → ⊥) → JoinRefusing day a b room (refused 20 2 1 5)
+  no_day : window_of day ≡ None → JoinRefusing day a b room (refused NoProcessDay 0 0 0)
+  first_file : (w : Window) (x : Refusal) → window_of day ≡ Some w → check_of day a ≡ Err x
+      → JoinRefusing day a b room (refused x.reason 1 x.«record» x.field)
+  second_file : (w : Window) (s : Totals) (x : Refusal) → window_of day ≡ Some w → check_of day a ≡ Ok s → check_of day b ≡ Err x
+      → JoinRefusing day a b room (refused x.reason 2 x.«record» x.field)
+  other_sender : (s t : Totals) → BothAccepted day a b s t → (sender a ≡ sender b → ⊥) → JoinRefusing day a b room (refused OtherSender 2 1 5)
   shared_key : (s t : Totals) (i : ℕ) → BothAccepted day a b s t → sender a ≡ sender b → FirstShared (keys_of a) (records_of b) i
-      → JoinRefusing day a b room (refused 15 2 (i + 1) 6)
+      → JoinRefusing day a b room (refused KeySeen 2 (i + 1) 6)
   many_records : (s t : Totals) → BothAccepted day a b s t → sender a ≡ sender b → Apart (keys_of a) (keys_of b) → most_records < s.records.0 + t.records.0 - 2
-      → JoinRefusing day a b room (refused 3 0 0 0)
+      → JoinRefusing day a b room (refused TooManyRecords 0 0 0)
   many_assignments : (s t : Totals) → BothAccepted day a b s t → sender a ≡ sender b → Apart (keys_of a) (keys_of b) → s.records.0 + t.records.0 - 2 ≤ most_records
-      → most_assignments < s.assignments.0 + t.assignments.0 → JoinRefusing day a b room (refused 16 0 0 0)
+      → most_assignments < s.assignments.0 + t.assignments.0 → JoinRefusing day a b room (refused TooManyAssignments 0 0 0)
   large_sum : (s t : Totals) → BothAccepted day a b s t → sender a ≡ sender b → Apart (keys_of a) (keys_of b) → s.records.0 + t.records.0 - 2 ≤ most_records
-      → s.assignments.0 + t.assignments.0 ≤ most_assignments → limit_wide.0 < s.sum.0 + t.sum.0 → JoinRefusing day a b room (refused 13 0 0 0)
-  short_output : (s t : Totals) → BothAccepted day a b s t → Joinable a b s t → room < record_bytes * (both s t).records.0 → JoinRefusing day a b room (refused 19 0 0 0)
+      → s.assignments.0 + t.assignments.0 ≤ most_assignments → limit_wide.0 < s.sum.0 + t.sum.0 → JoinRefusing day a b room (refused PastLimit 0 0 0)
+  short_output : (s t : Totals) → BothAccepted day a b s t → Joinable a b s t → room < record_bytes * (both s t).records.0 → JoinRefusing day a b room (refused NoRoom 0 0 0)
 
 -- the figures of a joined file: those of both files together, and those of its own records
 pub record AddedUp (day : ProcessDay) (a b : List ℕ) (u : Totals) : Type 0 where
   pub first : Totals
   pub second : Totals
-  pub first_accepted : check_of day a ≡ Accepted first
-  pub second_accepted : check_of day b ≡ Accepted second
+  pub first_accepted : check_of day a ≡ Ok first
+  pub second_accepted : check_of day b ≡ Ok second
   pub added : u ≡ both first second
   pub counted : FiguresOf (records_of (joined_file a b u)) u
 
@@ -111,7 +110,7 @@ room_for a b = length a + length b - 2 * record_bytes
 
 -- joined into an output that is just as long as what is joined
 abbrev pub JoinedTo : ProcessDay → List ℕ → List ℕ → Totals → Type 0
-JoinedTo day a b u = join_of day a b (room_for a b) ≡ Accepted u
+JoinedTo day a b u = join_of day a b (room_for a b) ≡ Ok u
 
 -- three files joined, the first two first; a refusal of either joining is a refusal
 pub record FirstTwo (day : ProcessDay) (a b c : List ℕ) (u : Totals) : Type 0 where

@@ -13,8 +13,10 @@ use Rattle.rules.specs.Fields.{number_in, sender_field, agreement_field, assignm
 use Rattle.rules.specs.declared.Kind.{Kind}
 use Rattle.rules.specs.declared.Kind.TheVariants.{R10, R20, R30, R31, R40, R41, R49, R50}
 use Rattle.operations.specs.Making.{Put, made10, made20, made30, made31, made40, made41, made49, made50, record_from, not_made}
-use Rattle.operations.specs.declared.Making.{Making}
 use Rattle.laws.specs.Meets.{Broken}
+use Rattle.operations.specs.Making.{Making}
+use Rattle.layout.specs.declared.Reason.TheVariants.{NoRoom, TooLong}
+use Rattle.layout.specs.declared.Reason.{Reason}
 
 -- every value fits into its field
 unfoldable pub AllFit : List Put → Type 0
@@ -35,8 +37,8 @@ pub record LongValue (ps : List Put) (k : ℕ) : Type 0 where
 abbrev pub OwnHold : Kind → List ℕ → Type 0
 OwnHold k r = AllHold none [] r (own_table k r)
 
--- the first of them that does not, with number n and field k
-abbrev pub OwnFault : Kind → List ℕ → ℕ → ℕ → Type 0
+-- the first of them that does not, with reason n and field k
+abbrev pub OwnFault : Kind → List ℕ → Reason → ℕ → Type 0
 OwnFault kind r n k = Broken none [] r (own_table kind r) n k
 
 -- what is made
@@ -47,9 +49,9 @@ pub record Makes (kind : Kind) (ps : List Put) (room : ℕ) : Type 0 where
 
 -- why a record is refused, and with what
 pub data MakeRefusing (kind : Kind) (ps : List Put) (room : ℕ) : Making → Type 0 where
-  too_long_value : (k : ℕ) → LongValue ps k → MakeRefusing kind ps room (not_made 22 k)
-  own_rule : (n k : ℕ) → AllFit ps → OwnFault kind (record_from ps) n k → MakeRefusing kind ps room (not_made n k)
-  no_room : AllFit ps → OwnHold kind (record_from ps) → room < record_bytes → MakeRefusing kind ps room (not_made 19 0)
+  too_long_value : (k : ℕ) → LongValue ps k → MakeRefusing kind ps room (not_made TooLong k)
+  own_rule : (n : Reason) (k : ℕ) → AllFit ps → OwnFault kind (record_from ps) n k → MakeRefusing kind ps room (not_made n k)
+  no_room : AllFit ps → OwnHold kind (record_from ps) → room < record_bytes → MakeRefusing kind ps room (not_made NoRoom 0)
 
 -- the values of the eight records
 pub data Values : Kind → List Put → Type 0 where

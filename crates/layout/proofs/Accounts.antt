@@ -5,15 +5,15 @@ use mathlib.Core.Path.{◌≡◌, refl, sym, ◌∙◌, ap}
 use mathlib.Core.List.{List, [], ◌∷◌}
 use mathlib.Core.Bool.{Bool, true, false}
 use lib.Dec.{eqb}
-use Rattle.std.specs.Prelude.{if◌then◌else◌}
+use Rattle.std.specs.Prelude.{if◌then◌else◌, Ok}
 use Rattle.fields.specs.Bytes.{every, is_digit, part}
 use Rattle.fields.specs.Accounts.{Account, Right, WrongDigit, NoRightDigit, NotDigits, judged, right_digit, account_of, is_right, is_number, last_digit, remainder}
 use Rattle.figures.specs.declared.totals.Totals.{Totals}
-use Rattle.layout.specs.Findings.{demanded, account_found}
+use Rattle.layout.specs.Findings.{demanded, account_found, sound}
 use Rattle.layout.specs.Rules.{digits, right_account}
 use Rattle.layout.specs.Rows.{at, first_fault}
-use Rattle.layout.specs.declared.Finding.TheVariants.{Sound}
 use Rattle.layout.proofs.Laws.{demands}
+use Rattle.layout.specs.declared.Reason.TheVariants.{WrongForm, WrongAccount}
 
 judged_by : (none right : Bool) (d : ℕ) → is_number (if none then NoRightDigit else (if right then Right else WrongDigit d)) ≡ true
 judged_by true right d = refl
@@ -34,7 +34,7 @@ unfolding account_of
 number_in_account s = numbers_only (every is_digit s) _ (judged_number (last_digit s) (remainder s))
 
 -- digits, then a right last digit
-pub two_tests : (x : Account) (k : ℕ) → demanded (demanded Sound (is_number x) 8 k) (is_right x) 11 k ≡ account_found x k
+pub two_tests : (x : Account) (k : ℕ) → demanded (demanded sound (is_number x) WrongForm k) (is_right x) WrongAccount k ≡ account_found x k
 two_tests Right k = refl
 two_tests (WrongDigit d) k = refl
 two_tests NoRightDigit k = refl
@@ -45,5 +45,5 @@ pub account_rows : (f : Totals) (ks r : List ℕ) (k from to : ℕ)
     → first_fault f ks r (at k from to digits ∷ at k from to right_account ∷ []) ≡ account_found (account_of (part from to r)) k
 account_rows f ks r k from to =
     demands f ks r (at k from to digits ∷ at k from to right_account ∷ [])
-    ∙ ap (λ (b : Bool). demanded (demanded Sound b 8 k) (is_right (account_of (part from to r))) 11 k) (sym (number_in_account (part from to r)))
+    ∙ ap (λ (b : Bool). demanded (demanded sound b WrongForm k) (is_right (account_of (part from to r))) WrongAccount k) (sym (number_in_account (part from to r)))
     ∙ two_tests (account_of (part from to r)) k

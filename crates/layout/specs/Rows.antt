@@ -1,6 +1,6 @@
 -- Document 01, "Refusal numbers": a record's rules are rows in the stated order, and its fault is that of the first row that does not hold.
 -- Assumes nothing.
-use Rattle.std.specs.Prelude.{ℕ, ◌+◌, ◌≡◌, List, [], ◌∷◌, Bool, true, false, not, ◌||◌, ltb, eqb, if◌then◌else◌}
+use Rattle.std.specs.Prelude.{ℕ, ◌+◌, ◌≡◌, List, [], ◌∷◌, Bool, true, false, not, ◌||◌, ltb, eqb, if◌then◌else◌, Ok, Err}
 use Rattle.limits.specs.Limits.{most_assignments}
 use Rattle.fields.specs.Bytes.{part}
 use Rattle.dates.specs.Dates.{ddmmyy}
@@ -8,8 +8,8 @@ use Rattle.figures.specs.Figures.{within, limit_wide}
 use Rattle.figures.specs.declared.amounts.Amount.{Amount}
 use Rattle.figures.specs.declared.totals.Totals.{Totals}
 use Rattle.layout.specs.Rules.{Rule}
-use Rattle.layout.specs.declared.Finding.{Finding}
-use Rattle.layout.specs.declared.Finding.TheVariants.{Sound, Fault}
+use Rattle.layout.specs.declared.Reason.{Reason}
+use Rattle.layout.specs.Findings.{Finding, fault, sound}
 
 -- the figures of record 89
 pub data Figure : Type 0 where
@@ -27,8 +27,8 @@ pub data FileTest : Type 0 where
 -- a test of the record against its assignment or the process day; a test of the file
 pub data Row : Type 0 where
   at : ℕ → ℕ → ℕ → Rule → Row
-  must : Bool → ℕ → ℕ → Row
-  file : FileTest → ℕ → ℕ → Row
+  must : Bool → Reason → ℕ → Row
+  file : FileTest → Reason → ℕ → Row
 
 unfoldable pub member : ℕ → List ℕ → Bool
 member k [] = false
@@ -49,10 +49,10 @@ holds f ks room = ltb f.assignments.0 most_assignments
 holds f ks (figure w v) = eqb v (figure_of w f)
 
 -- what a row gives where it does not hold
-abbrev pub row_number : Row → ℕ
-row_number (at field from to x) = x.number
-row_number (must t n field) = n
-row_number (file t n field) = n
+abbrev pub row_reason : Row → Reason
+row_reason (at field from to x) = x.reason
+row_reason (must t n field) = n
+row_reason (file t n field) = n
 
 abbrev pub row_field : Row → ℕ
 row_field (at field from to x) = field
@@ -66,8 +66,8 @@ module _ (f : Totals) (ks : List ℕ) (r : List ℕ) where
   passes (file t n field) = holds f ks t
 
   unfoldable pub first_fault : List Row → Finding
-  first_fault [] = Sound
-  first_fault (w ∷ ws) = if passes w then first_fault ws else Fault (row_number w) (row_field w)
+  first_fault [] = sound
+  first_fault (w ∷ ws) = if passes w then first_fault ws else Err (fault (row_reason w) (row_field w))
 
   -- every row holds
   unfoldable pub AllHold : List Row → Type 0

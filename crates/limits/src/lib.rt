@@ -5,6 +5,8 @@
 // A record: 80 bytes of text and a line feed.
 pub const RECORD_BYTES: usize = 81;
 
+pub type Record = [u8; RECORD_BYTES];
+
 pub const MOST_RECORDS: usize = 200_000;
 
 pub const MOST_ASSIGNMENTS: usize = 500;

@@ -1,27 +1,27 @@
 -- A record made from capped numbers is the record made from the numbers: what is too long is refused as such, whatever its bytes.
 -- Assumes nothing.
-use Prim.Native.Nat.{ℕ, ◌+◌, ◌^◌, ◌≤◌, ◌<◌}
+use Prim.Native.Nat.{ℕ, ◌+◌, ◌^◌, ◌≤◌}
 use mathlib.Core.Path.{◌≡◌, refl, sym, ap, ap₂, subst, ◌∙◌}
 use mathlib.Core.List.{List, [], ◌∷◌, ◌++◌}
-use mathlib.Core.Bool.{Bool, true, false, false≢true}
+use mathlib.Core.Bool.{Bool, true, false, ◌&&◌, false≢true}
 use native.Mathlib.Nat.{pow-le-pow_right}
 use native.Mathlib.Omega.{arith}
-use borrow.Author.Tests.{ltb-true, ltb-false, le-ltb, eq-eqb, ne_eqb}
+use borrow.Author.Tests.{ltb-true, ltb-false, le-ltb}
 use lib.Dec.{eqb, ltb, lit<}
 use lib.ListN.{length, get_or}
 use lib.Seq.{get_or-drop}
-use Rattle.std.specs.Prelude.{if◌then◌else◌}
+use Rattle.std.specs.Prelude.{if◌then◌else◌, Ok, Err}
 use Rattle.fields.specs.Numbers.{value}
-use Rattle.layout.specs.declared.Finding.{Finding}
-use Rattle.layout.specs.declared.Finding.TheVariants.{Sound, Fault}
 use Rattle.rules.specs.Fields.{Message, message01, message04, message_of, message_by}
 use Rattle.rules.specs.declared.Kind.{Kind}
-use Rattle.operations.specs.Making.{Put, number, left, right, fixed, notification, message, record_from, too_long, on_sound, judged, make_of, lent_record, made_bytes, code_by}
+use Rattle.operations.specs.Making.{Put, head, number, left, right, notification, message, record_from, too_long, on_sound, judged, make_of, lent_record, made_bytes, code_by}
 use Rattle.operations.specs.Promises.{MakePromise}
-use Rattle.operations.specs.declared.Making.{Making}
 use Rattle.make_lines.specs.Lines.{values_of, is_numeral, cap, capped}
 use Rattle.make_lines.specs.Draft.{service_given, given_in, number_at, text_at}
 use Rattle.make_lines.proofs.Numbers.{capped_low, capped_high, capped_four}
+use Rattle.layout.specs.Findings.{Finding, fault, sound}
+use Rattle.operations.specs.Making.{Making}
+use Rattle.layout.specs.declared.Reason.TheVariants.{TooLong}
 
 -- two values fit alike, and where they fit they are the same bytes
 pub record Alike (p q : Put) : Type 0 where
@@ -57,14 +57,14 @@ long_alike : {ps qs : List Put} → AllAlike ps qs → too_long ps ≡ too_long 
 unfolding too_long
 long_alike none = refl
 long_alike (also {p} {q} {ps} {qs} a r) =
-    ap₂ (λ (b : Bool) (k : ℕ). if b then too_long ps else Fault 22 k) a.fits a.field ∙ ap (λ (x : Finding). if q.fits then x else Fault 22 q.field) (long_alike r)
+    ap₂ (λ (b : Bool) (k : ℕ). if b then too_long ps else Err (fault TooLong k)) a.fits a.field ∙ ap (λ (x : Finding). if q.fits then x else Err (fault TooLong q.field)) (long_alike r)
 
 -- the first fits, and so do the others
-first_fits : (b : Bool) (k : ℕ) (x : Finding) → (if b then x else Fault 22 k) ≡ Sound → (b ≡ true) × (x ≡ Sound)
+first_fits : (b : Bool) (k : ℕ) (x : Finding) → (if b then x else Err (fault TooLong k)) ≡ sound → (b ≡ true) × (x ≡ sound)
 first_fits true k x h = (refl, h)
 first_fits false k x h = (cc, cc)
 
-record_alike : {ps qs : List Put} → AllAlike ps qs → too_long ps ≡ Sound → record_from ps ≡ record_from qs
+record_alike : {ps qs : List Put} → AllAlike ps qs → too_long ps ≡ sound → record_from ps ≡ record_from qs
 unfolding too_long record_from
 record_alike none h = refl
 record_alike (also {p} {q} {ps} {qs} a r) h =
@@ -77,8 +77,8 @@ module _ (k : Kind) {ps qs : List Put} (a : AllAlike ps qs) where
   made_alike room = go (too_long ps) refl
     where
       go : (f : Finding) → too_long ps ≡ f → on_sound (too_long ps) (judged k (record_from ps) room) ≡ on_sound (too_long qs) (judged k (record_from qs) room)
-      go Sound e = ap₂ (λ (x : Finding) (r : List ℕ). on_sound x (judged k r room)) (long_alike a) (record_alike a e)
-      go (Fault n j) e =
+      go (Ok u) e = ap₂ (λ (x : Finding) (r : List ℕ). on_sound x (judged k r room)) (long_alike a) (record_alike a e)
+      go (Err x) e =
           ap (λ (x : Finding). on_sound x (judged k (record_from ps) room)) e
           ∙ sym (ap (λ (x : Finding). on_sound x (judged k (record_from qs) room)) (sym (long_alike a) ∙ e))
 
@@ -88,8 +88,8 @@ module _ (k : Kind) {ps qs : List Put} (a : AllAlike ps qs) where
     where
       go : (f : Finding) → too_long ps ≡ f → lent_record (on_sound (too_long ps) (judged k (record_from ps) (length out))) (record_from ps) out
           ≡ lent_record (on_sound (too_long qs) (judged k (record_from qs) (length out))) (record_from qs) out
-      go Sound e = ap₂ (λ (x : Finding) (r : List ℕ). lent_record (on_sound x (judged k r (length out))) r out) (long_alike a) (record_alike a e)
-      go (Fault n j) e =
+      go (Ok u) e = ap₂ (λ (x : Finding) (r : List ℕ). lent_record (on_sound x (judged k r (length out))) r out) (long_alike a) (record_alike a e)
+      go (Err x) e =
           ap (λ (x : Finding). lent_record (on_sound x (judged k (record_from ps) (length out))) (record_from ps) out) e
           ∙ sym (ap (λ (x : Finding). lent_record (on_sound x (judged k (record_from qs) (length out))) (record_from qs) out) (sym (long_alike a) ∙ e))
 
@@ -107,18 +107,25 @@ module _ (s : List ℕ) (i : ℕ) where
   pub given_right : (k w : ℕ) (t : List ℕ) → t ≡ get_or (values_of s) (1 + i) [] → Alike (right k w t) (right k w (text_at i (given_in s)))
   given_right k w t e = same_put (ap (right k w) (e ∙ sym (get_or-drop 1 (values_of s) i [])))
 
+-- fields 1 to 5 of a transaction's record, and what stands behind them
+module _ (s : List ℕ) (k : Kind) {service code n : ℕ} (es : service ≡ capped (value (get_or (values_of s) 1 []))) (ec : code ≡ capped (value (get_or (values_of s) 2 []))) (en : n ≡ capped (value (get_or (values_of s) 3 []))) where
+  pub given_opening : {ps qs : List Put} → AllAlike ps qs
+      → AllAlike (head k service code ++ (number 5 7 n ∷ ps)) (head k (number_at 0 (given_in s)) (number_at 1 (given_in s)) ++ (number 5 7 (number_at 2 (given_in s)) ∷ qs))
+  given_opening a =
+      also (same_put refl)
+      (also (given_number s 0 2 2 service (omega arith) es)
+      (also (given_number s 1 3 2 code (omega arith) ec)
+      (also (same_put refl)
+      (also (given_number s 2 5 7 n (omega arith) en) a))))
+
 -- ---- the service that a line gives
 module _ (s : List ℕ) (a : ℕ) (e : a ≡ capped (value (get_or (values_of s) 1 []))) where
   four : eqb a 4 ≡ eqb (number_at 0 (given_in s)) 4
   four = ap (λ (x : ℕ). eqb x 4) (e ∙ ap (λ (x : List ℕ). capped (value x)) (sym (get_or-drop 1 (values_of s) 0 []))) ∙ capped_four (number_at 0 (given_in s))
 
-  pub another_service : (a ≡ 4 → ⊥) → 1 ≡ service_given (given_in s)
+  pub service_told : (b : Bool) → eqb a 4 && is_numeral (get_or (values_of s) 1 []) ≡ b → (if b then 4 else 1) ≡ service_given (given_in s)
   unfolding service_given
-  another_service h = rw (sym four ∙ ne_eqb a 4 h) refl
-
-  pub service_four : (b : Bool) → a ≡ 4 → is_numeral (get_or (values_of s) 1 []) ≡ b → (if b then 4 else 1) ≡ service_given (given_in s)
-  unfolding service_given
-  service_four b h q = rw (sym four ∙ eq-eqb a 4 h, ap is_numeral (get_or-drop 1 (values_of s) 0 []) ∙ q) refl
+  service_told b h = ap (λ (x : Bool). if x then 4 else 1) (sym h ∙ ap₂ ◌&&◌ four (ap is_numeral (sym (get_or-drop 1 (values_of s) 0 []))))
 
   -- a message, from its notification code on, with the fields of that service
   pub given_message : (l c : ℕ) (w : List ℕ) → l ≡ capped (value (get_or (values_of s) 4 [])) → c ≡ capped (value (get_or (values_of s) 5 [])) → w ≡ get_or (values_of s) 6 []

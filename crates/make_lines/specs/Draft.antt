@@ -1,26 +1,30 @@
 -- What lines of values make: a record for each line that bears one, up to the first that is refused.
 -- Assumes nothing.
-use Rattle.std.specs.Prelude.{ℕ, ◌+◌, ◌-◌, ◌≡◌, List, [], ◌∷◌, ◌++◌, Bool, true, false, ◌&&◌, eqb, leb, length, get_or, drop, if◌then◌else◌}
+use Rattle.std.specs.Prelude.{ℕ, ◌+◌, ◌-◌, ◌≡◌, List, [], ◌∷◌, ◌++◌, Bool, true, false, ◌&&◌, eqb, leb, length, get_or, drop, if◌then◌else◌, Result, Ok, Err}
 use Rattle.limits.specs.Limits.{record_bytes, most_records}
 use Rattle.fields.specs.Bytes.{same, text}
 use Rattle.fields.specs.Numbers.{value}
-use Rattle.layout.specs.Findings.{or_else}
-use Rattle.layout.specs.declared.Finding.{Finding}
-use Rattle.layout.specs.declared.Finding.TheVariants.{Sound, Fault}
+use Rattle.layout.specs.Findings.{Finding, fault, or_else, sound}
+use Rattle.layout.specs.declared.Fault.{Fault}
+use Rattle.layout.specs.declared.Reason.{Reason}
 use Rattle.rules.specs.Fields.{message_of}
 use Rattle.rules.specs.Refusals.{refusal}
 use Rattle.rules.specs.declared.Kind.{Kind}
+use Rattle.rules.specs.declared.Refusal.{Refusal}
 use Rattle.rules.specs.declared.Kind.TheVariants.{R10, R20, R30, R31, R40, R41, R49, R50, R88, R89, Other}
-use Rattle.operations.specs.Making.{Put, made10, made20, made30, made31, made40, made41, made49, made50, record_from, on_sound, make_of, lent_record}
-use Rattle.operations.specs.declared.Making.{Making}
-use Rattle.operations.specs.declared.Making.TheVariants.{Made, NotMade}
+use Rattle.operations.specs.Making.{Making, Put, made10, made20, made30, made31, made40, made41, made49, made50, record_from, on_sound, make_of, lent_record}
 use Rattle.make_lines.specs.Lines.{lines_of, values_of, passed_over, bearing, is_numeral}
 use Rattle.make_lines.specs.declared.slots.Slot.{Slot}
 use Rattle.make_lines.specs.declared.slots.Slot.TheVariants.{Numeral, Words}
-use Rattle.make_lines.specs.declared.Taken.{Taken}
-use Rattle.make_lines.specs.declared.Taken.TheVariants.{Added, Stopped}
-use Rattle.make_lines.specs.declared.Drafting.{Drafting}
-use Rattle.make_lines.specs.declared.Drafting.TheVariants.{Drafted, NotDrafted}
+use Rattle.layout.specs.declared.Reason.TheVariants.{BrokenLength, TooManyRecords, NotFixed, WrongForm}
+
+-- what making a draft answers: how many records it has, or a refusal that bears the line in the place of a record
+abbrev pub Drafting : Type 0
+Drafting = Result ℕ Refusal
+
+-- what a line adds: none or one record; or the reason and the field of its refusal
+abbrev pub Taken : Type 0
+Taken = Result ℕ Fault
 
 -- the record type that a line begins with
 unfoldable pub type_given : List ℕ → Kind
@@ -55,18 +59,18 @@ all_empty ((x ∷ s) ∷ vs) = false
 
 -- too few values: 8 at the field of the first that is missing; too many: 8, of no field
 unfoldable pub counted : List Slot → List (List ℕ) → Finding
-counted [] vs = if all_empty vs then Sound else Fault 8 0
-counted (s ∷ ss) [] = Fault 8 (field_of s)
+counted [] vs = if all_empty vs then sound else Err (fault WrongForm 0)
+counted (s ∷ ss) [] = Err (fault WrongForm (field_of s))
 counted (s ∷ ss) (v ∷ vs) = counted ss vs
 
 -- a number has to be one
 abbrev pub slot_found : Slot → List ℕ → Finding
-slot_found (Numeral k) v = if is_numeral v then Sound else Fault 8 k
-slot_found (Words k) v = Sound
+slot_found (Numeral k) v = if is_numeral v then sound else Err (fault WrongForm k)
+slot_found (Words k) v = sound
 
 -- 8 at the first number that is none
 unfoldable pub numerals : List Slot → List (List ℕ) → Finding
-numerals [] vs = Sound
+numerals [] vs = sound
 numerals (s ∷ ss) vs = or_else (slot_found s (get_or vs 0 [])) (numerals ss (drop 1 vs))
 
 -- the value in place i, as a text and as a number
@@ -114,7 +118,7 @@ is_given Other = false
 
 -- what is found before a record is made: another record type is 7
 unfoldable pub fault_in : Kind → List (List ℕ) → Finding
-fault_in k vs = if is_given k then slots_found k vs else Fault 7 4
+fault_in k vs = if is_given k then slots_found k vs else Err (fault NotFixed 4)
 
 -- of a line with this record type and these values
 abbrev pub kind_making : Kind → List (List ℕ) → ℕ → Making
@@ -139,20 +143,20 @@ pub record LinePromise (l out : List ℕ) (answer : Making) (after : List ℕ) :
   pub leaves : after ≡ lent_record (line_making l (length out)) (line_record l) out
 
 -- a refusal of the values bears the line in the place of a record
-abbrev pub not_drafted : ℕ → ℕ → ℕ → Drafting
-not_drafted n line k = NotDrafted (refusal n 0 line k)
+abbrev pub not_drafted : Reason → ℕ → ℕ → Drafting
+not_drafted n line k = Err (refusal n 0 line k)
 
 abbrev pub on_made : Making → ℕ → Drafting → Drafting
-on_made Made i x = x
-on_made (NotMade x) i rest = not_drafted x.number i x.field
+on_made (Ok u) i x = x
+on_made (Err x) i rest = not_drafted x.reason i x.field
 
 -- what a line adds: nothing where it is passed over, else a record or a refusal
 abbrev pub taken_by : Making → Taken
-taken_by Made = Added 1
-taken_by (NotMade x) = Stopped x.number x.field
+taken_by (Ok u) = Ok 1
+taken_by (Err x) = Err (fault x.reason x.field)
 
 unfoldable pub line_taken : List ℕ → ℕ → Taken
-line_taken l room = if passed_over l then Added 0 else taken_by (line_making l room)
+line_taken l room = if passed_over l then Ok 0 else taken_by (line_making l room)
 
 -- the buffer afterwards
 unfoldable pub taken_bytes : List ℕ → List ℕ → List ℕ
@@ -160,14 +164,14 @@ taken_bytes l out = if passed_over l then out else lent_record (line_making l (l
 
 -- the lines in turn, after i lines and n records, with this room left
 unfoldable pub draft_from : ℕ → ℕ → ℕ → List (List ℕ) → Drafting
-draft_from room i n [] = Drafted n
+draft_from room i n [] = Ok n
 draft_from room i n (l ∷ ls) =
     if passed_over l then draft_from room (i + 1) n ls
     else on_made (line_making l room) (i + 1) (draft_from (room - record_bytes) (i + 1) (n + 1) ls)
 
 abbrev pub records_on : Making → List ℕ → List ℕ → List ℕ
-records_on Made r rest = r ++ rest
-records_on (NotMade x) r rest = []
+records_on (Ok u) r rest = r ++ rest
+records_on (Err x) r rest = []
 
 -- their records, up to the first line that is refused
 unfoldable pub records_from : ℕ → List (List ℕ) → List ℕ
@@ -187,15 +191,15 @@ most_drafted = most_records - 2
 
 -- how many records the values have: none is 2, more than any file takes is 3
 unfoldable pub enough : ℕ → Finding
-enough n = if eqb n 0 then Fault 2 0 else (if leb n most_drafted then Sound else Fault 3 0)
+enough n = if eqb n 0 then Err (fault BrokenLength 0) else (if leb n most_drafted then sound else Err (fault TooManyRecords 0))
 
 abbrev pub on_enough : Finding → Drafting → Drafting
-on_enough Sound x = x
-on_enough (Fault n k) x = not_drafted n 0 k
+on_enough (Ok u) x = x
+on_enough (Err e) x = not_drafted e.reason 0 e.field
 
 abbrev pub bytes_on : Finding → List ℕ → List ℕ
-bytes_on Sound x = x
-bytes_on (Fault n k) x = []
+bytes_on (Ok u) x = x
+bytes_on (Err e) x = []
 
 -- what making a draft from values answers, into an output of this length
 unfoldable pub draft_of : List ℕ → ℕ → Drafting

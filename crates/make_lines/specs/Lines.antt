@@ -1,13 +1,9 @@
 -- Values as a spreadsheet exports them: a line for each record, its values parted by semicolons.
 -- Assumes nothing.
-use Rattle.std.specs.Prelude.{ℕ, zero, suc, ◌+◌, List, [], ◌∷◌, Bool, false, ◌||◌, eqb, ltb, length, if◌then◌else◌}
+use Rattle.std.specs.Prelude.{ℕ, zero, suc, ◌+◌, List, [], ◌∷◌, Bool, false, ◌||◌, eqb, ltb, if◌then◌else◌}
 use Rattle.fields.specs.Bytes.{every, is_digit}
 
--- up to the first byte b, and behind it; nothing is behind where there is none
-unfoldable pub before : ℕ → List ℕ → List ℕ
-before b [] = []
-before b (x ∷ s) = if eqb x b then [] else (x ∷ before b s)
-
+-- behind the first byte b; nothing where there is none
 unfoldable pub behind : ℕ → List ℕ → List ℕ
 behind b [] = []
 behind b (x ∷ s) = if eqb x b then s else behind b s
@@ -75,7 +71,3 @@ cap = 100_000_000_000_000_000
 
 unfoldable pub capped : ℕ → ℕ
 capped n = if ltb n cap then n else cap
-
--- where a piece that ends at e is followed: over the byte that parts them, if there is one
-unfoldable pub over : ℕ → List ℕ → ℕ
-over e s = if ltb e (length s) then e + 1 else e

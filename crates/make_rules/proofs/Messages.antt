@@ -9,7 +9,6 @@ use Rattle.figures.specs.declared.totals.Totals.{Totals}
 use Rattle.layout.specs.Findings.{or_else}
 use Rattle.layout.specs.Rules.{textual, zeros}
 use Rattle.layout.specs.Rows.{Row, first_fault}
-use Rattle.layout.specs.declared.Finding.{Finding}
 use Rattle.layout.proofs.Laws.{pieces}
 use Rattle.rules.specs.Alone.{own_rows}
 use Rattle.rules.specs.Codes.{service_code}
@@ -18,6 +17,7 @@ use Rattle.rules.specs.Layouts.{notification49, free49, message49, fields49, not
 use Rattle.rules.specs.Messages.{no_places}
 use Rattle.rules.specs.Payments.{line, column}
 use Rattle.rules.proofs.Free.{first_sound}
+use Rattle.layout.specs.Findings.{Finding}
 
 module _ (f : Totals) (ks : List ℕ) (r : List ℕ) where
   -- behind any rows, what line and column find of the message may be left out

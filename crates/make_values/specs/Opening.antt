@@ -3,9 +3,9 @@
 use Rattle.std.specs.Prelude.{ℕ, ◌-◌, List, [], ◌∷◌, ◌++◌}
 use Rattle.field_texts.specs.Texts.{to_left}
 use Rattle.fields.specs.Numbers.{written}
-use Rattle.layout.specs.declared.Finding.{Finding}
 use Rattle.operations.specs.Making.{number, too_long}
 use Rattle.write_fields.specs.Parts.{head_bytes}
+use Rattle.layout.specs.Findings.{Finding}
 
 -- 22 at the first of service, type and number that is too long
 unfoldable pub opening_long : ℕ → ℕ → ℕ → Finding

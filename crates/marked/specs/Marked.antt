@@ -1,21 +1,15 @@
 -- Document 01, "Marked examples": ten claims about the rules themselves, in one table under one statement.
 -- Assumes nothing.
-use Rattle.std.specs.Prelude.{ℕ, zero, suc, ◌≡◌, refl, List, [], ◌∷◌, ◌++◌, Bool, true, false, not, ◌&&◌, eqb, ltb}
+use Rattle.std.specs.Prelude.{ℕ, zero, suc, ◌≡◌, refl, List, [], ◌∷◌, ◌++◌, Bool, true, false, not, ◌&&◌, eqb, ltb, Option, Some, None}
 use Prim.Native.String.{String}
 use Rattle.fields.specs.Bytes.{every, text}
 use Rattle.fields.specs.Numbers.{number_of, value_from, written}
 use Rattle.fields.specs.Accounts.{account_of, is_right, judged, right_digit, weighted}
-use Rattle.fields.specs.Numbers.{Digits}
-use Rattle.fields.specs.Numbers.{Number, NotDigits}
 use Rattle.dates.specs.Dates.{days_in, is_date, day_of, read_day, earlier}
 use Rattle.dates.specs.Windows.{window_of, too_late, too_early}
 use Rattle.dates.specs.declared.Date.{Date}
-use Rattle.dates.specs.declared.Day.{Day}
-use Rattle.dates.specs.declared.Day.TheVariants.{On, NoDate}
 use Rattle.services.specs.declared.Service.TheVariants.{Autogiro, Remittance}
 use Rattle.dates.specs.declared.Window.{Window}
-use Rattle.dates.specs.declared.Opening.{Opening}
-use Rattle.dates.specs.declared.Opening.TheVariants.{Open, NoDay}
 use Rattle.figures.specs.Figures.{amount}
 use Rattle.figures.specs.Groups.{empty_group, with_specified, with_credited, gives}
 use Rattle.figures.specs.declared.groups.Group.{Group}
@@ -24,21 +18,21 @@ abbrev account : List ℕ → Bool
 account s = is_right (account_of s)
 
 -- what is claimed of the day that six digits write: it is one, and the claim holds of it
-abbrev a_day : Day → (Date → Bool) → Bool
-a_day (On d) claim = claim d
-a_day NoDate claim = false
+abbrev a_day : Option Date → (Date → Bool) → Bool
+a_day (Some d) claim = claim d
+a_day None claim = false
 
-abbrev in_digits : Digits → (Date → Bool) → Bool
-in_digits (Number n) claim = a_day (read_day n) claim
-in_digits NotDigits claim = false
+abbrev in_digits : Option ℕ → (Date → Bool) → Bool
+in_digits (Some n) claim = a_day (read_day n) claim
+in_digits None claim = false
 
 abbrev on : String → (Date → Bool) → Bool
 on s claim = in_digits (number_of (text s)) claim
 
 -- what is claimed of the window of a process day: it has one, and the claim holds of it
-abbrev opened : Opening → (Window → Bool) → Bool
-opened (Open w) claim = claim w
-opened NoDay claim = false
+abbrev opened : Option Window → (Window → Bool) → Bool
+opened (Some w) claim = claim w
+opened None claim = false
 
 abbrev from : ℕ → ℕ → ℕ → (Window → Bool) → Bool
 from year month day claim = opened (window_of (record { year = year; month = month; day = day })) claim

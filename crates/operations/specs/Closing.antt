@@ -1,6 +1,6 @@
 -- Document 01, "Closing, joining, parting": what closing a draft answers, and what it writes.
 -- Assumes nothing.
-use Rattle.std.specs.Prelude.{ℕ, ◌+◌, ◌*◌, List, [], ◌∷◌, ◌++◌, Bool, ◌&&◌, eqb, leb, ltb, length, drop, if◌then◌else◌}
+use Rattle.std.specs.Prelude.{ℕ, ◌+◌, ◌*◌, List, [], ◌∷◌, ◌++◌, Bool, ◌&&◌, eqb, leb, ltb, length, drop, if◌then◌else◌, Ok, Err}
 use Rattle.dates.specs.Windows.{window_of}
 use Rattle.dates.specs.declared.ProcessDay.{ProcessDay}
 use Rattle.dates.specs.declared.Window.{Window}
@@ -14,9 +14,9 @@ use Rattle.rules.specs.Run.{run, records_of, bad_length, on_window}
 use Rattle.rules.specs.declared.Kind.TheVariants.{R88}
 use Rattle.rules.specs.declared.Mode.TheVariants.{Draft}
 use Rattle.rules.specs.declared.State.{State}
-use Rattle.rules.specs.declared.Verdict.{Verdict}
-use Rattle.rules.specs.declared.Verdict.TheVariants.{Accepted, Refused}
 use Rattle.operations.specs.Ends.{end88, end89}
+use Rattle.rules.specs.Refusals.{Verdict}
+use Rattle.layout.specs.declared.Reason.TheVariants.{BrokenLength, TooManyRecords, NoRoom}
 
 -- positions 7-8 are 20, whatever else the record is
 abbrev pub opens : List ℕ → Bool
@@ -40,17 +40,17 @@ file_bytes t = record_bytes * t.records.0
 
 -- where a file of these figures can be written: 19 if the output is too short for it
 abbrev pub given : ℕ → Totals → Verdict
-given room t = if leb (file_bytes t) room then Accepted t else refused 19 0 0 0
+given room t = if leb (file_bytes t) room then Ok t else refused NoRoom 0 0 0
 
 abbrev pub on_accepted : Verdict → (Totals → Verdict) → Verdict
-on_accepted (Accepted t) f = f t
-on_accepted (Refused x) f = Refused x
+on_accepted (Ok t) f = f t
+on_accepted (Err x) f = Err x
 
 -- what the draft itself gives: 2, then 3, then its records; its figures are those of the file to be written
 unfoldable pub weigh : Window → List ℕ → Verdict
 weigh w d =
-    if bad_length d then refused 2 0 0 0
-    else (if leb (to_write (records_of d)) most_records then on_accepted (run Draft w 0 start [] (records_of d)) (λ t. Accepted (closed_figures t)) else refused 3 0 0 0)
+    if bad_length d then refused BrokenLength 0 0 0
+    else (if leb (to_write (records_of d)) most_records then on_accepted (run Draft w 0 start [] (records_of d)) (λ t. Ok (closed_figures t)) else refused TooManyRecords 0 0 0)
 
 -- what closing a draft into an output of this length answers: 1 first of all, 19 last
 unfoldable pub close_of : ProcessDay → List ℕ → ℕ → Verdict
@@ -82,8 +82,8 @@ closed_file d = bytes_of (with_ends start (records_of d))
 
 -- an output after the operation: what is written lies over its start where the answer is accepted; else all stays
 unfoldable pub lent_after : Verdict → List ℕ → List ℕ → List ℕ
-lent_after (Accepted t) written before = written ++ drop (length written) before
-lent_after (Refused x) written before = before
+lent_after (Ok t) written before = written ++ drop (length written) before
+lent_after (Err x) written before = before
 
 unfoldable pub closed_bytes : ProcessDay → List ℕ → List ℕ → List ℕ
 closed_bytes day d out = lent_after (close_of day d (length out)) (closed_file d) out

@@ -1,6 +1,6 @@
 -- Document 01, "Closing, joining, parting": what joining two files answers, and what it writes.
 -- Assumes nothing.
-use Rattle.std.specs.Prelude.{ℕ, ◌+◌, ◌-◌, List, [], ◌∷◌, ◌++◌, Bool, false, ◌||◌, leb, length, take, drop, if◌then◌else◌}
+use Rattle.std.specs.Prelude.{ℕ, ◌+◌, ◌-◌, List, [], ◌∷◌, ◌++◌, Bool, false, ◌||◌, leb, length, take, drop, if◌then◌else◌, Ok, Err}
 use Rattle.dates.specs.Windows.{window_of}
 use Rattle.dates.specs.declared.ProcessDay.{ProcessDay}
 use Rattle.dates.specs.declared.Window.{Window}
@@ -14,10 +14,10 @@ use Rattle.rules.specs.Fields.{bytes_in, sender_field}
 use Rattle.rules.specs.Growth.{keys, all_keys}
 use Rattle.rules.specs.Refusals.{refused}
 use Rattle.rules.specs.Run.{records_of, judge, on_window}
-use Rattle.rules.specs.declared.Verdict.{Verdict}
-use Rattle.rules.specs.declared.Verdict.TheVariants.{Accepted, Refused}
 use Rattle.operations.specs.Ends.{end89}
 use Rattle.operations.specs.Closing.{given, on_accepted, lent_after}
+use Rattle.rules.specs.Refusals.{Verdict}
+use Rattle.layout.specs.declared.Reason.TheVariants.{TooManyRecords, PastLimit, KeySeen, TooManyAssignments, OtherSender}
 
 -- the sender, in the record 10
 abbrev pub sender : List ℕ → List ℕ
@@ -42,21 +42,21 @@ unfoldable pub weigh_limits : Totals → Totals → Verdict
 weigh_limits s t =
     if leb (both s t).records.0 most_records then
     (if leb (both s t).assignments.0 most_assignments then
-    (if within s.sum t.sum limit_wide then Accepted (both s t)
-    else refused 13 0 0 0)
-    else refused 16 0 0 0)
-    else refused 3 0 0 0
+    (if within s.sum t.sum limit_wide then Ok (both s t)
+    else refused PastLimit 0 0 0)
+    else refused TooManyAssignments 0 0 0)
+    else refused TooManyRecords 0 0 0
 
 -- two accepted files, of the first its sender, its keys and its figures, of the second its sender, its records and its figures: 20, 15, then the limits
 unfoldable pub weigh_both : List ℕ → List ℕ → Totals → List ℕ → List (List ℕ) → Totals → Verdict
 weigh_both from1 ks s from2 rs t =
-    if same from1 from2 then (if shares ks (all_keys rs) then refused 15 2 (shared_at 0 ks rs) 6 else weigh_limits s t)
-    else refused 20 2 1 5
+    if same from1 from2 then (if shares ks (all_keys rs) then refused KeySeen 2 (shared_at 0 ks rs) 6 else weigh_limits s t)
+    else refused OtherSender 2 1 5
 
 -- a file's own refusal bears its operand
 abbrev pub of_operand : ℕ → Verdict → (Totals → Verdict) → Verdict
-of_operand n (Accepted t) f = f t
-of_operand n (Refused x) f = refused x.number n x.«record» x.field
+of_operand n (Ok t) f = f t
+of_operand n (Err x) f = refused x.reason n x.«record» x.field
 
 -- the second file, after the first was accepted
 unfoldable pub weigh_second : Window → List ℕ → Totals → List ℕ → Verdict
@@ -83,8 +83,8 @@ joined_file a b t = without_end a ++ (assignments_of b ++ end89 t)
 
 -- the figures of an answer
 abbrev pub answered_figures : Verdict → Totals
-answered_figures (Accepted t) = t
-answered_figures (Refused x) = none
+answered_figures (Ok t) = t
+answered_figures (Err x) = none
 
 unfoldable pub joined_bytes : ProcessDay → List ℕ → List ℕ → List ℕ → List ℕ
 joined_bytes day a b out = lent_after (join_of day a b (length out)) (joined_file a b (answered_figures (join_of day a b (length out)))) out

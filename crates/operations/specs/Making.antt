@@ -1,23 +1,30 @@
 -- Document 02, No. 1, and No. 2 for 41 and 49: a record made from values. Numbers stand right with zeros, texts left with blanks, KIDs and field 7 of a 30 to the right.
 -- Assumes nothing.
-use Rattle.std.specs.Prelude.{ℕ, ◌+◌, ◌-◌, ◌^◌, List, [], ◌∷◌, ◌++◌, Bool, true, leb, ltb, eqb, length, drop, if◌then◌else◌}
+use Rattle.std.specs.Prelude.{ℕ, ◌+◌, ◌-◌, ◌^◌, List, [], ◌∷◌, ◌++◌, Bool, true, leb, ltb, eqb, length, drop, if◌then◌else◌, Result, Ok, Err}
 use Prim.Native.String.{String}
 use Rattle.limits.specs.Limits.{record_bytes}
 use Rattle.fields.specs.Bytes.{text}
 use Rattle.fields.specs.Numbers.{written}
 use Rattle.field_texts.specs.Texts.{to_left, to_right}
 use Rattle.figures.specs.Totals.{none}
+use Rattle.layout.specs.Findings.{Finding, fault, sound}
 use Rattle.layout.specs.Rows.{first_fault}
-use Rattle.layout.specs.declared.Finding.{Finding}
-use Rattle.layout.specs.declared.Finding.TheVariants.{Sound, Fault}
 use Rattle.rules.specs.Alone.{own_table}
 use Rattle.rules.specs.Codes.{number_of_kind}
 use Rattle.rules.specs.Fields.{Message, message_of}
 use Rattle.rules.specs.Refusals.{refusal}
 use Rattle.rules.specs.declared.Kind.{Kind}
 use Rattle.rules.specs.declared.Kind.TheVariants.{R10, R20, R30, R31, R40, R41, R49, R50}
-use Rattle.operations.specs.declared.Making.{Making}
-use Rattle.operations.specs.declared.Making.TheVariants.{Made, NotMade}
+use Rattle.rules.specs.declared.Refusal.{Refusal}
+use Rattle.layout.specs.declared.Reason.{Reason}
+use Rattle.layout.specs.declared.Reason.TheVariants.{NoRoom, TooLong}
+
+-- what making a record answers: it was made, or a refusal
+abbrev pub Making : Type 0
+Making = Result (Unit {0}) Refusal
+
+abbrev pub recorded : Making
+recorded = Ok tt
 
 -- what is put into a record: the field, whether the value fits into it, and the bytes that it becomes
 pub record Put : Type 0 where
@@ -96,20 +103,20 @@ record_from (p ∷ ps) = p.bytes ++ record_from ps
 
 -- 22 at the first value that is too long for its field
 unfoldable pub too_long : List Put → Finding
-too_long [] = Sound
-too_long (p ∷ ps) = if p.fits then too_long ps else Fault 22 p.field
+too_long [] = sound
+too_long (p ∷ ps) = if p.fits then too_long ps else Err (fault TooLong p.field)
 
 -- a refusal names no record
-abbrev pub not_made : ℕ → ℕ → Making
-not_made n k = NotMade (refusal n 0 0 k)
+abbrev pub not_made : Reason → ℕ → Making
+not_made n k = Err (refusal n 0 0 k)
 
 abbrev pub on_sound : Finding → Making → Making
-on_sound Sound x = x
-on_sound (Fault n k) x = not_made n k
+on_sound (Ok u) x = x
+on_sound (Err e) x = not_made e.reason e.field
 
 -- a record that is put together, for a buffer of this length: its own rules, then 19
 unfoldable pub judged : Kind → List ℕ → ℕ → Making
-judged k r room = on_sound (first_fault none [] r (own_table k r)) (if leb record_bytes room then Made else not_made 19 0)
+judged k r room = on_sound (first_fault none [] r (own_table k r)) (if leb record_bytes room then recorded else not_made NoRoom 0)
 
 -- what making a record answers: 22 is looked for first
 unfoldable pub make_of : Kind → List Put → ℕ → Making
@@ -117,8 +124,8 @@ make_of k ps room = on_sound (too_long ps) (judged k (record_from ps) room)
 
 -- the buffer afterwards: the record lies over its start where it is made; else all stays
 unfoldable pub lent_record : Making → List ℕ → List ℕ → List ℕ
-lent_record Made r before = r ++ drop record_bytes before
-lent_record (NotMade x) r before = before
+lent_record (Ok u) r before = r ++ drop record_bytes before
+lent_record (Err x) r before = before
 
 unfoldable pub made_bytes : Kind → List Put → List ℕ → List ℕ
 made_bytes k ps out = lent_record (make_of k ps (length out)) (record_from ps) out

@@ -3,15 +3,15 @@
 use Rattle.std.specs.Prelude.{ℕ, ◌≡◌, List, length}
 use Rattle.dates.specs.declared.ProcessDay.{ProcessDay}
 use Rattle.rules.specs.Run.{check_of}
-use Rattle.rules.specs.declared.Verdict.{Verdict}
 use Rattle.rules.specs.declared.Kind.{Kind}
 use Rattle.operations.specs.Answers.{checked_numbers, written_numbers, parted_numbers, made_numbers}
 use Rattle.operations.specs.Closing.{close_of, closed_bytes}
 use Rattle.operations.specs.Joining.{join_of, joined_bytes}
 use Rattle.operations.specs.Parting.{part_of, parted_first, parted_second}
 use Rattle.operations.specs.Making.{Put, make_of, made_bytes}
-use Rattle.operations.specs.declared.Making.{Making}
-use Rattle.operations.specs.declared.Parting.{Parting}
+use Rattle.operations.specs.Making.{Making}
+use Rattle.operations.specs.Parting.{Parting}
+use Rattle.rules.specs.Refusals.{Verdict}
 
 -- the answer alone: nothing is lent to be written
 pub record CheckPromise (day : ProcessDay) (file : List ℕ) (answer : Verdict) : Type 0 where

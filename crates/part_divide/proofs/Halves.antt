@@ -7,9 +7,9 @@ use mathlib.Core.Bool.{Bool, ◌&&◌, and-false}
 use native.Mathlib.Omega.{arith}
 use borrow.Author.Tests.{le-leb, lt-leb}
 use lib.Dec.{leb}
-use lib.ListN.{length, take, drop, length-append, length-take, length-drop}
+use lib.ListN.{length, take, drop, length-append, length-drop}
 use lib.Seq.{length-take-le, take_all, drop-drop}
-use Rattle.std.specs.Prelude.{if◌then◌else◌}
+use Rattle.std.specs.Prelude.{if◌then◌else◌, Ok, Err}
 use Rattle.dates.specs.Dates.{date}
 use Rattle.figures.specs.Totals.{none, ◌⊕◌, one_record, Room}
 use Rattle.figures.specs.declared.totals.Totals.{Totals}
@@ -21,16 +21,16 @@ use Rattle.laws.proofs.Made.{bytes_join}
 use Rattle.operations.specs.Ends.{end89}
 use Rattle.operations.specs.Closing.{bytes_of}
 use Rattle.operations.specs.Parting.{through, figures_of, made, not_parted, lent_parted}
-use Rattle.operations.specs.declared.Parting.{Parting}
-use Rattle.operations.specs.declared.Parting.TheVariants.{Parted, NotParted}
 use Rattle.rules.specs.Growth.{gains}
 use Rattle.rules.specs.Refusals.{refusal}
 use Rattle.rules.specs.Run.{chunks, records_of}
 use Rattle.rules.specs.declared.Refusal.{Refusal}
 use Rattle.run_figures.specs.Slots.{summed}
-use Rattle.field_texts.proofs.Wrote.{tail_part}
 use Rattle.write_file.proofs.Ends.{end_length}
 use Rattle.part_divide.specs.Halves.{Divisible, first_half, second_half, divided}
+use Rattle.operations.specs.Parting.{Parting}
+use Rattle.operations.specs.declared.NotParted.TheVariants.{Refused}
+use Rattle.layout.specs.declared.Reason.TheVariants.{NoRoom}
 
 -- ---- figures with both ends
 module _ (t : Totals) (b : Bounded 200000 t) where
@@ -81,51 +81,38 @@ module _ (head body figures : List ℕ) (k all : ℕ) (d : Divisible head body f
   pub cut_here : (t.records.0 ≡ through k (records_of body)) × (t.records.0 ≤ length body / 81) × (t ≡ gains (take t.records.0 (records_of body)))
   cut_here = (boundary, omega (arith, boundary, d.sums.within, record_count body), e ∙ d.sums.first ∙ ap (λ (n : ℕ). gains (take n (records_of body))) (sym boundary))
 
-module _ (head body figures : List ℕ) (k all : ℕ) (d : Divisible head body figures k all) (p : ℕ) (e : p ≡ through k (records_of body)) (m : p ≤ length body / 81) where
-  -- the assignments before the boundary, and those behind it
-  front : bytes_of (take p (records_of body)) ≡ take (81 * p) body
-  front = ap bytes_of (first_cuts p (length body / 81) body m) ∙ laid p body (omega (arith, d.whole))
+-- the assignments before the boundary, and those behind it
+module _ (head body figures : List ℕ) (k all : ℕ) (d : Divisible head body figures k all) (p : ℕ) (e : p ≡ through k (records_of body)) (m : p ≤ length body / 81) (before behind : List ℕ) (cut : before ≡ take (81 * p) body) (others : behind ≡ drop (81 * p) body) where
+  front : bytes_of (take p (records_of body)) ≡ before
+  front = ap bytes_of (first_cuts p (length body / 81) body m) ∙ laid p body (omega (arith, d.whole)) ∙ sym cut
 
-  back_bytes : bytes_of (drop p (records_of body)) ≡ drop (81 * p) body
-  back_bytes =
+  back : bytes_of (drop p (records_of body)) ≡ behind
+  back =
       let l : length (drop (81 * p) body) ≤ 81 * (length body / 81 - p) = rw length-drop (omega (arith, d.whole)) in
-      ap bytes_of (last_cuts p (length body / 81) body m) ∙ laid (length body / 81 - p) (drop (81 * p) body) (rw length-drop (omega (arith, d.whole))) ∙ take_all (81 * (length body / 81 - p)) (drop (81 * p) body) l
-
-  -- the rest, as the code has it
-  abbrev pub rest_of : List ℕ
-  rest_of = take (length body - 81 * p) (drop (81 * p) body)
-
-  rest_is : rest_of ≡ drop (81 * p) body
-  rest_is = tail_part (81 * p) body
+      ap bytes_of (last_cuts p (length body / 81) body m) ∙ laid (length body / 81 - p) (drop (81 * p) body) (rw length-drop (omega (arith, d.whole))) ∙ take_all (81 * (length body / 81 - p)) (drop (81 * p) body) l ∙ sym others
 
   -- each part, from the figures of its assignments
-  pub first_is : (t f : Totals) → t ≡ gains (take p (records_of body)) → f ≡ (one_record ⊕ t) ⊕ one_record → head ++ (take (81 * p) body ++ end89 f) ≡ first_half head body k
+  pub first_is : (t f : Totals) → t ≡ gains (take p (records_of body)) → f ≡ (one_record ⊕ t) ⊕ one_record → head ++ (before ++ end89 f) ≡ first_half head body k
   unfolding first_half
   first_is t f g h =
       ap₂ (λ (x : List ℕ) (y : Totals). head ++ (x ++ end89 y)) (sym front) (h ∙ ap (λ (x : Totals). (one_record ⊕ x) ⊕ one_record) g) ∙ sym (made_bytes head (take p (records_of body)))
       ∙ ap (λ (x : ℕ). bytes_of (made head (take x (records_of body)))) e
 
-  pub second_is : (t f : Totals) → t ≡ gains (drop p (records_of body)) → f ≡ (one_record ⊕ t) ⊕ one_record → head ++ (rest_of ++ end89 f) ≡ second_half head body k
+  pub second_is : (t f : Totals) → t ≡ gains (drop p (records_of body)) → f ≡ (one_record ⊕ t) ⊕ one_record → head ++ (behind ++ end89 f) ≡ second_half head body k
   unfolding second_half
   second_is t f g h =
-      ap₂ (λ (x : List ℕ) (y : Totals). head ++ (x ++ end89 y)) (rest_is ∙ sym back_bytes) (h ∙ ap (λ (x : Totals). (one_record ⊕ x) ⊕ one_record) g) ∙ sym (made_bytes head (drop p (records_of body)))
+      ap₂ (λ (x : List ℕ) (y : Totals). head ++ (x ++ end89 y)) (sym back) (h ∙ ap (λ (x : Totals). (one_record ⊕ x) ⊕ one_record) g) ∙ sym (made_bytes head (drop p (records_of body)))
       ∙ ap (λ (x : ℕ). bytes_of (made head (drop x (records_of body)))) e
 
   -- and how long it is
   file_long : (x : List ℕ) (f : Totals) → length (head ++ (x ++ end89 f)) ≡ length x + 162
   file_long x f = length-append head (x ++ end89 f) ∙ omega (arith, d.ten, length-append x (end89 f), end_length 0 89 f (date 0))
 
-  pub front_long : length (take (81 * p) body) ≡ 81 * p
-  front_long = length-take (81 * p) body ∙ omega (arith, d.whole)
+  first_long : length (first_half head body k) ≡ length before + 162
+  first_long = sym (ap length (first_is _ _ refl refl)) ∙ file_long before _
 
-  rest_long : length rest_of ≡ length body - 81 * p
-  rest_long = ap length rest_is ∙ length-drop (81 * p) body
-
-  first_long : length (first_half head body k) ≡ 81 * p + 162
-  first_long = sym (ap length (first_is _ _ refl refl)) ∙ file_long (take (81 * p) body) _ ∙ ap (λ (x : ℕ). x + 162) front_long
-
-  second_long : length (second_half head body k) ≡ length body - 81 * p + 162
-  second_long = sym (ap length (second_is _ _ refl refl)) ∙ file_long rest_of _ ∙ ap (λ (x : ℕ). x + 162) rest_long
+  second_long : length (second_half head body k) ≡ length behind + 162
+  second_long = sym (ap length (second_is _ _ refl refl)) ∙ file_long behind _
 
   -- ---- what dividing answers
   module _ (first second : List ℕ) where
@@ -135,50 +122,44 @@ module _ (head body figures : List ℕ) (k all : ℕ) (d : Divisible head body f
 
     -- the answer, from which of the two outputs have room
     answered : Bool → Bool → Parting
-    answered y z = if (y && z) then Parted (length (first_half head body k)) (length (second_half head body k)) else not_parted 19
+    answered y z = if y && z then Ok (length (first_half head body k), length (second_half head body k)) else not_parted NoRoom
 
-    leaves : (x : Refusal) → x ≡ refusal 19 0 0 0 → divided head body k (length first) (length second) ≡ not_parted 19 → Divides (NotParted x) first second
+    leaves : (x : Refusal) → x ≡ refusal NoRoom 0 0 0 → divided head body k (length first) (length second) ≡ not_parted NoRoom → Divides (Err (Refused x)) first second
     unfolding lent_parted
-    leaves x e q = (ap NotParted e ∙ sym q, refl, refl)
+    leaves x e q = (ap (λ (y : Refusal). Err (Refused y)) e ∙ sym q, refl, refl)
 
-    pub first_short : (x : Refusal) → x ≡ refusal 19 0 0 0 → length first < 81 * p + 162 → Divides (NotParted x) first second
+    pub first_short : (x : Refusal) → x ≡ refusal NoRoom 0 0 0 → length first < length before + 162 → Divides (Err (Refused x)) first second
     unfolding divided answered
     first_short x q h =
         leaves x q (ap (λ (y : Bool). answered y (leb (length (second_half head body k)) (length second))) (lt-leb (length (first_half head body k)) (length first) (omega (arith, first_long))))
 
-    pub second_short : (x : Refusal) → x ≡ refusal 19 0 0 0 → length second < length body - 81 * p + 162 → Divides (NotParted x) first second
+    pub second_short : (x : Refusal) → x ≡ refusal NoRoom 0 0 0 → length second < length behind + 162 → Divides (Err (Refused x)) first second
     unfolding divided answered
     second_short x q h =
         leaves x q
         (ap (answered (leb (length (first_half head body k)) (length first))) (lt-leb (length (second_half head body k)) (length second) (omega (arith, second_long)))
-        ∙ ap (λ (y : Bool). if y then Parted (length (first_half head body k)) (length (second_half head body k)) else not_parted 19) (and-false (leb (length (first_half head body k)) (length first))))
+        ∙ ap (λ (y : Bool). if y then Ok (length (first_half head body k), length (second_half head body k)) else not_parted NoRoom) (and-false (leb (length (first_half head body k)) (length first))))
 
-    module _ (h : 81 * p + 162 ≤ length first) (g : length body - 81 * p + 162 ≤ length second) where
-      pub first_room : length head + length (take (81 * p) body) + 81 ≤ length first
-      first_room = omega (arith, d.ten, front_long)
-
-      pub second_room : length head + length rest_of + 81 ≤ length second
-      second_room = omega (arith, d.ten, rest_long)
-
-      both : divided head body k (length first) (length second) ≡ Parted (81 * p + 162) (length body - 81 * p + 162)
+    module _ (h : length before + 162 ≤ length first) (g : length behind + 162 ≤ length second) where
+      both : divided head body k (length first) (length second) ≡ Ok (length before + 162, length behind + 162)
       unfolding divided answered
       both =
           ap₂ answered (le-leb (length (first_half head body k)) (length first) (omega (arith, first_long))) (le-leb (length (second_half head body k)) (length second) (omega (arith, second_long)))
-          ∙ ap₂ Parted first_long second_long
+          ∙ ap₂ (λ (x y : ℕ). Ok (x, y)) first_long second_long
 
-      over : (w v before after : List ℕ) (n : ℕ) → w ≡ v → length v ≡ n → after ≡ w ++ drop n before → after ≡ lent_parted (Parted (81 * p + 162) (length body - 81 * p + 162)) v before
+      over : (w v old after : List ℕ) (n : ℕ) → w ≡ v → length v ≡ n → after ≡ w ++ drop n old → after ≡ lent_parted (Ok (length before + 162, length behind + 162)) v old
       unfolding lent_parted
-      over w v before after n i l q = q ∙ ap₂ (λ (x : List ℕ) (y : ℕ). x ++ drop y before) i (sym l)
+      over w v old after n i l q = q ∙ ap₂ (λ (x : List ℕ) (y : ℕ). x ++ drop y old) i (sym l)
 
       pub parts : (t u f o : Totals) (one two : List ℕ) → t ≡ gains (take p (records_of body)) → f ≡ (one_record ⊕ t) ⊕ one_record
           → u ≡ summed figures (k + 1) (all + 1 - (k + 1)) → o ≡ one_record ⊕ u
-          → one ≡ (head ++ (take (81 * p) body ++ end89 f)) ++ drop (length head + length (take (81 * p) body) + 81) first
-          → two ≡ (head ++ (rest_of ++ end89 o)) ++ drop (length head + length rest_of + 81) second → Divides (Parted (81 * p + 162) (length body - 81 * p + 162)) one two
+          → one ≡ (head ++ (before ++ end89 f)) ++ drop (length head + length before + 81) first
+          → two ≡ (head ++ (behind ++ end89 o)) ++ drop (length head + length behind + 81) second → Divides (Ok (length before + 162, length behind + 162)) one two
       parts t u f o one two a b c j x y =
           let g = gains (drop p (records_of body)) in
           let q : o ≡ (one_record ⊕ g) ⊕ one_record =
           j ∙ ap (λ (z : Totals). one_record ⊕ z) (c ∙ d.sums.others ∙ ap (λ (n : ℕ). gains (drop n (records_of body)) ⊕ one_record) (sym e)) ∙ sym (⊕-assoc one_record g one_record) in (
             sym both,
-            over _ (first_half head body k) first one (length head + length (take (81 * p) body) + 81) (first_is t f a b) (omega (arith, first_long, d.ten, front_long)) x,
-            over _ (second_half head body k) second two (length head + length rest_of + 81) (second_is g o refl q) (omega (arith, second_long, d.ten, rest_long)) y,
+            over _ (first_half head body k) first one (length head + length before + 81) (first_is t f a b) (omega (arith, first_long, d.ten)) x,
+            over _ (second_half head body k) second two (length head + length behind + 81) (second_is g o refl q) (omega (arith, second_long, d.ten)) y,
           )

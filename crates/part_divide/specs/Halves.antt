@@ -1,15 +1,15 @@
 -- Document 01, "Closing, joining, parting": a record 10 and assignments after it, parted in two.
 -- Assumes nothing.
-use Rattle.std.specs.Prelude.{ℕ, ◌+◌, ◌-◌, ◌*◌, ◌/◌, ◌≤◌, ◌≡◌, List, ◌&&◌, leb, length, take, drop, if◌then◌else◌}
+use Rattle.std.specs.Prelude.{ℕ, ◌+◌, ◌-◌, ◌*◌, ◌/◌, ◌≤◌, ◌≡◌, List, ◌&&◌, leb, length, take, drop, if◌then◌else◌, Ok}
 use Rattle.limits.specs.Limits.{record_bytes, most_records, most_assignments}
 use Rattle.figures.specs.Totals.{◌⊕◌, one_record}
 use Rattle.operations.specs.Closing.{bytes_of}
 use Rattle.operations.specs.Parting.{through, made, not_parted}
-use Rattle.operations.specs.declared.Parting.{Parting}
-use Rattle.operations.specs.declared.Parting.TheVariants.{Parted}
 use Rattle.rules.specs.Growth.{gains}
 use Rattle.rules.specs.Run.{records_of}
 use Rattle.run_figures.specs.Slots.{summed, Summable}
+use Rattle.operations.specs.Parting.{Parting}
+use Rattle.layout.specs.declared.Reason.TheVariants.{NoRoom}
 
 -- the figures left of the assignments of a body: of the first k, and of the others with the file's 89
 pub record HalfSums (figures : List ℕ) (k all : ℕ) (body : List (List ℕ)) : Type 0 where
@@ -37,4 +37,4 @@ second_half head body k = bytes_of (made head (drop (through k (records_of body)
 -- the lengths of both, or 19 if either output is too short
 unfoldable pub divided : List ℕ → List ℕ → ℕ → ℕ → ℕ → Parting
 divided head body k room1 room2 =
-    if leb (length (first_half head body k)) room1 && leb (length (second_half head body k)) room2 then Parted (length (first_half head body k)) (length (second_half head body k)) else not_parted 19
+    if leb (length (first_half head body k)) room1 && leb (length (second_half head body k)) room2 then Ok (length (first_half head body k), length (second_half head body k)) else not_parted NoRoom

@@ -10,8 +10,9 @@ ghost use Rattle.operations.specs.Parting.{lent_parted};
 ghost use Rattle.part_divide.specs.Halves.{Divisible, first_half, second_half, divided};
 
 use figures::totals::Totals;
+use layout::Reason;
 use limits::RECORD_BYTES;
-use operations::Parting;
+use operations::{NotParted, Parting};
 use rules::Refusal;
 
 // Figures with a record 10 before them.
@@ -45,19 +46,14 @@ pub fn divide(
     ensures { (result ≡ divided head.now body.now k (length first.old) (length second.old)) × (first.new ≡ lent_parted result (first_half head.now body.now k) first.old) × (second.new ≡ lent_parted result (second_half head.now body.now k) second.old) }
 {
     let front = run_figures::sum_of(figures, 1, k + 1);
-    let records = front.records;
-    let at = RECORD_BYTES * records.0 as usize;
-    let len = body.len();
-    let first_size = at + 2 * RECORD_BYTES;
-    let second_size = len - at + 2 * RECORD_BYTES;
-    if first.len() < first_size {
-        return Parting::NotParted(Refusal::whole(19));
-    }
-    if second.len() < second_size {
-        return Parting::NotParted(Refusal::whole(19));
+    let (before, behind) = body.split_at(RECORD_BYTES * front.records.0 as usize);
+    let first_size = before.len() + 2 * RECORD_BYTES;
+    let second_size = behind.len() + 2 * RECORD_BYTES;
+    if first.len() < first_size || second.len() < second_size {
+        return Err(NotParted::Refused(Refusal::whole(Reason::NoRoom)));
     }
     let back = run_figures::sum_of(figures, k + 1, all + 1);
-    write_file::put_file(first, head, &body[..at], with_ends(front));
-    write_file::put_file(second, head, &body[at..len], with_head(back));
-    Parting::Parted(first_size, second_size)
+    write_file::put_file(first, head, before, with_ends(front));
+    write_file::put_file(second, head, behind, with_head(back));
+    Ok((first_size, second_size))
 }

@@ -8,8 +8,7 @@ ghost use Rattle.operations.specs.Promises.{PartPromise};
 use dates::ProcessDay;
 use figures::counts::Count;
 use limits::{FIGURE_SLOTS, MOST_ASSIGNMENTS, RECORD_BYTES};
-use operations::Parting;
-use rules::Verdict;
+use operations::{NotParted, Parting};
 
 // Some assignments stand before the boundary, and some after it.
 fn is_boundary(k: u64, assignments: Count) -> bool
@@ -24,24 +23,18 @@ pub fn part(day: ProcessDay, file: &[u8], k: u64, first: &mut [u8], second: &mut
 {
     let mut keys = [0u64; MOST_ASSIGNMENTS];
     let mut figures = [0u64; FIGURE_SLOTS];
-    match check_file::check_into(day, file, &mut keys, &mut figures) {
-        Verdict::Refused(refusal) => Parting::NotParted(refusal),
-        Verdict::Accepted(t) => {
-            let assignments = t.assignments;
-            if !is_boundary(k, assignments) {
-                return Parting::NoBoundary(assignments);
-            }
-            let all = assignments.0 as usize;
-            let end = file.len() - RECORD_BYTES;
-            part_divide::divide(
-                &file[0..RECORD_BYTES],
-                &file[RECORD_BYTES..end],
-                &figures,
-                k as usize,
-                all,
-                first,
-                second,
-            )
-        }
+    let t = check_file::check_into(day, file, &mut keys, &mut figures)?;
+    if !is_boundary(k, t.assignments) {
+        return Err(NotParted::NoBoundary(t.assignments));
     }
+    let end = file.len() - RECORD_BYTES;
+    part_divide::divide(
+        &file[0..RECORD_BYTES],
+        &file[RECORD_BYTES..end],
+        &figures,
+        k as usize,
+        t.assignments.0 as usize,
+        first,
+        second,
+    )
 }

@@ -11,15 +11,16 @@ ghost use Rattle.operations.specs.Promises.{CheckNumbers, CloseNumbers, JoinNumb
 use dates::ProcessDay;
 use figures::totals::Totals;
 use limits::RECORD_BYTES;
-use operations::{Making, Parting};
+use operations::{Making, NotParted, Parting};
 use rules::{Refusal, Verdict};
 
+#[tactic(auto, unfolding(operations::specs::Answers::refused_numbers))]
 fn tell_refused(x: Refusal, answer: &mut [u64; 16])
     ensures { answer.new ≡ refused_numbers x }
 {
     *answer = [
         0,
-        x.number as u64,
+        x.reason.number() as u64,
         x.operand as u64,
         x.record,
         x.field as u64,
@@ -38,25 +39,21 @@ fn tell_refused(x: Refusal, answer: &mut [u64; 16])
 }
 
 // Figures, and how many bytes were written.
+#[tactic(auto, unfolding(operations::specs::Answers::accepted_numbers))]
 fn tell_accepted(t: Totals, written: u64, answer: &mut [u64; 16])
     ensures { answer.new ≡ accepted_numbers t written }
 {
-    let assignments = t.assignments;
-    let transactions = t.transactions;
-    let records = t.records;
-    let sum = t.sum;
-    let first = t.first;
     *answer = [
         1,
         0,
         0,
         0,
         0,
-        assignments.0 as u64,
-        transactions.0 as u64,
-        records.0 as u64,
-        sum.0,
-        first.0 as u64,
+        t.assignments.0 as u64,
+        t.transactions.0 as u64,
+        t.records.0 as u64,
+        t.sum.0,
+        t.first.0 as u64,
         written,
         0,
         0,
@@ -66,45 +63,48 @@ fn tell_accepted(t: Totals, written: u64, answer: &mut [u64; 16])
     ];
 }
 
+#[tactic(auto, unfolding(operations::specs::Answers::checked_numbers))]
 fn tell_checked(verdict: Verdict, answer: &mut [u64; 16])
     ensures { answer.new ≡ checked_numbers verdict }
 {
     match verdict {
-        Verdict::Accepted(t) => tell_accepted(t, 0, answer),
-        Verdict::Refused(x) => tell_refused(x, answer),
+        Ok(t) => tell_accepted(t, 0, answer),
+        Err(x) => tell_refused(x, answer),
     }
 }
 
 // A verdict on a file that was written where it is accepted.
+#[tactic(auto, unfolding(operations::specs::Answers::written_numbers))]
 fn tell_written(verdict: Verdict, answer: &mut [u64; 16])
     ensures { answer.new ≡ written_numbers verdict }
 {
     match verdict {
-        Verdict::Accepted(t) => {
-            let records = t.records;
-            tell_accepted(t, RECORD_BYTES as u64 * records.0 as u64, answer)
-        }
-        Verdict::Refused(x) => tell_refused(x, answer),
+        Ok(t) => tell_accepted(t, RECORD_BYTES as u64 * t.records.0 as u64, answer),
+        Err(x) => tell_refused(x, answer),
     }
 }
 
+#[tactic(auto, unfolding(operations::specs::Answers::parted_numbers))]
 fn tell_parted(parting: Parting, answer: &mut [u64; 16])
     ensures { answer.new ≡ parted_numbers parting }
 {
     match parting {
-        Parting::Parted(n, m) => {
+        Ok((n, m)) => {
             *answer = [2, 0, 0, 0, 0, 0, 0, 0, 0, 0, n as u64, 0, 0, 0, 0, m as u64];
         }
-        Parting::NoBoundary(_assignments) => tell_refused(operations::no_boundary(), answer),
-        Parting::NotParted(x) => tell_refused(x, answer),
+        Err(NotParted::NoBoundary(_assignments)) => {
+            tell_refused(operations::no_boundary(), answer)
+        }
+        Err(NotParted::Refused(x)) => tell_refused(x, answer),
     }
 }
 
+#[tactic(auto, unfolding(operations::specs::Answers::made_numbers))]
 fn tell_made(making: Making, answer: &mut [u64; 16])
     ensures { answer.new ≡ made_numbers making }
 {
     match making {
-        Making::Made => {
+        Ok(()) => {
             *answer = [
                 3,
                 0,
@@ -124,7 +124,7 @@ fn tell_made(making: Making, answer: &mut [u64; 16])
                 0,
             ];
         }
-        Making::NotMade(x) => tell_refused(x, answer),
+        Err(x) => tell_refused(x, answer),
     }
 }
 

@@ -5,13 +5,26 @@ ghost use Rattle.operations.specs.Promises.{MakeNumbers};
 
 use super::tell_made;
 use figures::amounts::Amount;
+use make_record::Ruled;
+use make_values::{
+    Address, AddressLines, AssignmentStart, FileStart, MessageLine, Opening, Payment, PaymentTexts,
+    Specification,
+};
 use rules::Kind;
+
+// A record from values, and the answer.
+fn make<V: Ruled>(values: &V, out: &mut [u8], answer: &mut [u64; 16])
+    ensures { MakeNumbers V.kind (V.puts values.now) out.old answer.new out.new }
+{
+    tell_made(make_record::make(values, out), answer);
+}
 
 #[unsafe(no_mangle)]
 pub extern "C" fn pay_make10(sender: u64, number: u64, out: &mut [u8], answer: &mut [u64; 16])
     ensures { MakeNumbers Kind.R10 (made10 sender number) out.old answer.new out.new }
 {
-    tell_made(make_record::make10(sender, number, out), answer);
+    let values = FileStart { sender, number };
+    make(&values, out, answer);
 }
 
 #[unsafe(no_mangle)]
@@ -25,10 +38,13 @@ pub extern "C" fn pay_make20(
 )
     ensures { MakeNumbers Kind.R20 (made20 service agreement assignment account) out.old answer.new out.new }
 {
-    tell_made(
-        make_record::make20(service, agreement, assignment, account, out),
-        answer,
-    );
+    let values = AssignmentStart {
+        service,
+        agreement,
+        assignment,
+        account,
+    };
+    make(&values, out, answer);
 }
 
 #[unsafe(no_mangle)]
@@ -45,10 +61,19 @@ pub extern "C" fn pay_make30(
 )
     ensures { MakeNumbers Kind.R30 (made30 service code number date party.now amount kid.now) out.old answer.new out.new }
 {
-    tell_made(
-        make_record::make30(service, code, number, date, party, Amount(amount), kid, out),
-        answer,
-    );
+    let opening = Opening {
+        service,
+        code,
+        number,
+    };
+    let values = Payment {
+        opening,
+        date,
+        party,
+        amount: Amount(amount),
+        kid,
+    };
+    make(&values, out, answer);
 }
 
 #[unsafe(no_mangle)]
@@ -64,10 +89,18 @@ pub extern "C" fn pay_make31(
 )
     ensures { MakeNumbers Kind.R31 (made31 service code number text6.now text7.now text8.now) out.old answer.new out.new }
 {
-    tell_made(
-        make_record::make31(service, code, number, text6, text7, text8, out),
-        answer,
-    );
+    let opening = Opening {
+        service,
+        code,
+        number,
+    };
+    let values = PaymentTexts {
+        opening,
+        text6,
+        text7,
+        text8,
+    };
+    make(&values, out, answer);
 }
 
 #[unsafe(no_mangle)]
@@ -84,10 +117,19 @@ pub extern "C" fn pay_make40(
 )
     ensures { MakeNumbers Kind.R40 (made40 service code number name.now postal.now filler.now area.now) out.old answer.new out.new }
 {
-    tell_made(
-        make_record::make40(service, code, number, name, postal, filler, area, out),
-        answer,
-    );
+    let opening = Opening {
+        service,
+        code,
+        number,
+    };
+    let values = Address {
+        opening,
+        name,
+        postal,
+        filler,
+        area,
+    };
+    make(&values, out, answer);
 }
 
 #[unsafe(no_mangle)]
@@ -103,10 +145,18 @@ pub extern "C" fn pay_make41(
 )
     ensures { MakeNumbers Kind.R41 (made41 service code number address1.now address2.now country.now) out.old answer.new out.new }
 {
-    tell_made(
-        make_record::make41(service, code, number, address1, address2, country, out),
-        answer,
-    );
+    let opening = Opening {
+        service,
+        code,
+        number,
+    };
+    let values = AddressLines {
+        opening,
+        address1,
+        address2,
+        country,
+    };
+    make(&values, out, answer);
 }
 
 #[unsafe(no_mangle)]
@@ -122,10 +172,18 @@ pub extern "C" fn pay_make49(
 )
     ensures { MakeNumbers Kind.R49 (made49 service code number line column text.now) out.old answer.new out.new }
 {
-    tell_made(
-        make_record::make49(service, code, number, line, column, text, out),
-        answer,
-    );
+    let opening = Opening {
+        service,
+        code,
+        number,
+    };
+    let values = MessageLine {
+        opening,
+        line,
+        column,
+        text,
+    };
+    make(&values, out, answer);
 }
 
 #[unsafe(no_mangle)]
@@ -140,8 +198,15 @@ pub extern "C" fn pay_make50(
 )
     ensures { MakeNumbers Kind.R50 (made50 service code number kid.now amount) out.old answer.new out.new }
 {
-    tell_made(
-        make_record::make50(service, code, number, kid, Amount(amount), out),
-        answer,
-    );
+    let opening = Opening {
+        service,
+        code,
+        number,
+    };
+    let values = Specification {
+        opening,
+        kid,
+        amount: Amount(amount),
+    };
+    make(&values, out, answer);
 }

@@ -1,4 +1,4 @@
-// What the programs read and print: a file by its name and as far as there is room, a process day from six digits, and an answer as one line.
+// What the programs read and print: a file by its name and as far as there is room, a process day from six digits, and each answer as its line.
 
 #![tactic(auto)]
 
@@ -7,20 +7,17 @@ ghost use Rattle.std.specs.Io.{ReadsAtMost};
 ghost use Rattle.program_lines.specs.Days.{day_written};
 ghost use Rattle.program_lines.specs.Answers.{word_for};
 
-use dates::{Date, ProcessDay};
+use dates::ProcessDay;
 use figures::totals::Totals;
-use operations::Parting;
+use operations::{NotParted, Parting};
 use rules::{Refusal, Verdict};
 use std::fs::{File, Files};
-use std::io;
 use std::io::{ErrorKind, Read};
+use std::{fmt, io};
 
 // A name as the system takes it: the bytes of a text in UTF-8.
 pub fn path(name: &[u8]) -> io::Result<&str> {
-    match str::from_utf8(name) {
-        Ok(text) => Ok(text),
-        Err(_) => Err(io::Error::from(ErrorKind::InvalidData)),
-    }
+    str::from_utf8(name).map_err(|_| io::Error::from(ErrorKind::InvalidData))
 }
 
 // The file of this name, to be read.
@@ -34,11 +31,10 @@ pub fn read_full(input: &mut impl Read, buffer: &mut [u8]) -> io::Result<usize>
 {
     let mut done: usize = 0;
     while done < buffer.len() {
-        let n = input.read(&mut buffer[done..])?;
-        if n == 0 {
-            break;
+        match input.read(&mut buffer[done..])? {
+            0 => break,
+            n => done += n,
         }
-        done += n;
     }
     Ok(done)
 }
@@ -54,92 +50,94 @@ pub fn process_day(ddmmyy: u64) -> ProcessDay
     }
 }
 
-// A number after a blank.
-pub fn print_number(rt: &impl Print, n: u64) -> io::Result<()> {
-    rt.write_all(b" ")?;
-    rt.print(n)
-}
-
-// A date as DDMMYY.
-fn print_date(rt: &impl Print, d: Date) -> io::Result<()> {
-    let mut digits = [48u8; 6];
-    fields::put_number(&mut digits, dates::ddmmyy_of(d));
-    rt.write_all(b" ")?;
-    rt.write_all(&digits)
-}
-
-pub fn end_line(rt: &impl Print) -> io::Result<()> {
-    rt.write_all(b"\n")
-}
-
 // The word that an answer begins with, and that decides the status of the office's tool.
-fn word_of(verdict: Verdict) -> [u8; 8]
-    ensures { result ≡ word_for verdict }
+fn word_of(verdict: &Verdict) -> &'static str
+    ensures { result.now ≡ word_for verdict.now }
 {
     match verdict {
-        Verdict::Accepted(_t) => [97, 99, 99, 101, 112, 116, 101, 100],
-        Verdict::Refused(_x) => [114, 101, 102, 117, 115, 101, 100, 32],
+        Ok(_) => "accepted",
+        Err(_) => "refused ",
     }
 }
 
-// The five figures of an accepted file.
-fn print_figures(rt: &impl Print, t: Totals) -> io::Result<()> {
-    let assignments = t.assignments;
-    let transactions = t.transactions;
-    let records = t.records;
-    let sum = t.sum;
-    let first = t.first;
-    print_number(rt, assignments.0 as u64)?;
-    print_number(rt, transactions.0 as u64)?;
-    print_number(rt, records.0 as u64)?;
-    print_number(rt, sum.0)?;
-    print_date(rt, first)
+// The five figures of an accepted file; the first date as DDMMYY.
+#[derive(Clone, Copy)]
+struct Figures(Totals);
+
+impl fmt::Display for Figures {
+    fn fmt<W: fmt::Write>(&self, f: &mut fmt::Formatter<W>) -> fmt::Result {
+        let t = self.0;
+        let assignments = t.assignments.0;
+        let transactions = t.transactions.0;
+        let records = t.records.0;
+        let sum = t.sum.0;
+        let first = dates::ddmmyy_of(t.first);
+        write!(
+            f,
+            " {assignments} {transactions} {records} {sum} {first:06}"
+        )
+    }
 }
 
 // A refusal's number, record and field.
-fn print_refusal(rt: &impl Print, x: Refusal) -> io::Result<()> {
-    rt.print(x.number)?;
-    print_number(rt, x.record)?;
-    print_number(rt, x.field as u64)
-}
+#[derive(Clone, Copy)]
+struct Refused(Refusal);
 
-// An answer as document 01's program prints it, without the line's end.
-pub fn print_answer(rt: &impl Print, verdict: Verdict) -> io::Result<()> {
-    let word = word_of(verdict);
-    rt.write_all(&word)?;
-    match verdict {
-        Verdict::Accepted(t) => print_figures(rt, t),
-        Verdict::Refused(x) => print_refusal(rt, x),
+impl fmt::Display for Refused {
+    fn fmt<W: fmt::Write>(&self, f: &mut fmt::Formatter<W>) -> fmt::Result {
+        let x = self.0;
+        write!(f, "{} {} {}", x.reason.number(), x.record, x.field)
     }
 }
 
-// The answer of a check.
-pub fn print_check(rt: &impl Print, verdict: Verdict) -> io::Result<()> {
-    print_answer(rt, verdict)?;
-    end_line(rt)
-}
+// An answer as document 01's program prints it.
+#[derive(Clone, Copy)]
+pub struct Answer(pub Verdict);
 
-// The operand of a joining's refusal, after the answer.
-pub fn print_operand(rt: &impl Print, verdict: Verdict) -> io::Result<()> {
-    match verdict {
-        Verdict::Accepted(_t) => Ok(()),
-        Verdict::Refused(x) => print_number(rt, x.operand as u64),
-    }
-}
-
-// How many records were made, without the line's end.
-pub fn print_made(rt: &impl Print, records: u64) -> io::Result<()> {
-    rt.write_all(b"made")?;
-    print_number(rt, records)
-}
-
-// The answer of a parting, without the line's end.
-pub fn print_parting(rt: &impl Print, parting: Parting) -> io::Result<()> {
-    match parting {
-        Parting::Parted(_first, _second) => rt.write_all(b"parted"),
-        Parting::NoBoundary(_assignments) => {
-            print_answer(rt, Verdict::Refused(operations::no_boundary()))
+impl fmt::Display for Answer {
+    fn fmt<W: fmt::Write>(&self, f: &mut fmt::Formatter<W>) -> fmt::Result {
+        let word = word_of(&self.0);
+        match self.0 {
+            Ok(t) => write!(f, "{word}{}", Figures(t)),
+            Err(x) => write!(f, "{word}{}", Refused(x)),
         }
-        Parting::NotParted(x) => print_answer(rt, Verdict::Refused(x)),
+    }
+}
+
+// The answer of a joining: behind a refusal stands its operand.
+#[derive(Clone, Copy)]
+pub struct JoinAnswer(pub Verdict);
+
+impl fmt::Display for JoinAnswer {
+    fn fmt<W: fmt::Write>(&self, f: &mut fmt::Formatter<W>) -> fmt::Result {
+        Answer(self.0).fmt(f)?;
+        match self.0 {
+            Ok(_) => Ok(()),
+            Err(x) => write!(f, " {}", x.operand),
+        }
+    }
+}
+
+// The answer of a parting.
+#[derive(Clone, Copy)]
+pub struct PartAnswer(pub Parting);
+
+impl fmt::Display for PartAnswer {
+    fn fmt<W: fmt::Write>(&self, f: &mut fmt::Formatter<W>) -> fmt::Result {
+        match self.0 {
+            Ok(_) => f.write_str("parted"),
+            Err(NotParted::NoBoundary(_)) => Answer(Err(operations::no_boundary())).fmt(f),
+            Err(NotParted::Refused(x)) => Answer(Err(x)).fmt(f),
+        }
+    }
+}
+
+// The answer of a making: how many records were made.
+#[derive(Clone, Copy)]
+pub struct Made(pub u64);
+
+impl fmt::Display for Made {
+    fn fmt<W: fmt::Write>(&self, f: &mut fmt::Formatter<W>) -> fmt::Result {
+        write!(f, "made {}", self.0)
     }
 }

@@ -2,8 +2,7 @@
 
 #![tactic(auto)]
 
-ghost use Rattle.std.specs.Prelude.{◌≡◌, ◌&&◌, List, ℕ, eqb, length};
-ghost use Rattle.limits.specs.Limits.{record_bytes};
+ghost use Rattle.std.specs.Prelude.{◌≡◌, ◌&&◌, List, ℕ, eqb};
 ghost use Rattle.fields.specs.Bytes.{part};
 ghost use Rattle.fields.specs.Accounts.{is_number};
 ghost use Rattle.fields.specs.Kids.{is_reference};
@@ -16,8 +15,10 @@ use field_accounts::Account;
 use field_bytes::classes::Class;
 use figures::totals::Totals;
 use layout::Finding;
+use limits::Record;
 
 // A type of service 04, of which each has a bit; 65 and 66 stand where 1 and 2 do.
+#[tactic(auto, using(crate::proofs::Types::types_by_bits))]
 fn remitted(code: u8) -> bool
     ensures { result ≡ member code (types_for 4) }
 {
@@ -26,6 +27,7 @@ fn remitted(code: u8) -> bool
 }
 
 // A type of the service, both by their codes.
+#[tactic(auto, using(crate::proofs::Types::types01, crate::proofs::Types::types04))]
 pub fn listed(service: u8, code: u8) -> bool
     ensures { result ≡ is_type service code }
 {
@@ -39,46 +41,38 @@ pub fn listed(service: u8, code: u8) -> bool
 pub fn is_number(account: Account) -> bool
     ensures { result ≡ is_number account }
 {
-    match account {
-        Account::Right => true,
-        Account::WrongDigit(_digit) => true,
-        Account::NoRightDigit => true,
-        Account::NotDigits => false,
-    }
+    !matches!(account, Account::NotDigits)
 }
 
 // Field 7 is a reference, which service 01 takes.
-fn referred(r: &[u8], service: u8) -> bool
-    requires { length r.now ≡ record_bytes }
+fn referred(r: &Record, service: u8) -> bool
     ensures { result ≡ (eqb service 1 && is_reference (part 22 32 r.now)) }
 {
-    if service == 1 {
-        return fields::reference_at(r, 22, 32);
-    }
-    false
+    service == 1 && fields::reference_at(r, 22, 32)
 }
 
 // Field 7, payee or payer, of a record of the service: a right account, told at once; a reference; eleven digits of any sort for type 04 of service 04.
-pub fn party(r: &[u8], service: u8) -> Finding
-    requires { (length r.now ≡ record_bytes) × (service ≡ service_code r.now) }
+pub fn party(r: &Record, service: u8) -> Finding
+    requires { service ≡ service_code r.now }
     ensures { (f : Totals) (ks : List ℕ) → result ≡ first_fault f ks r.now (party30 r.now) }
 {
     if fields::right_account_at(r, 22) {
-        return Finding::Sound;
+        return Ok(());
     }
     if referred(r, service) {
-        return Finding::Sound;
+        return Ok(());
     }
     let account = fields::account_at(r, 22, 32);
     if (service != 1) & (fields::code_at(r, 5) == 4) & is_number(account) {
-        return Finding::Sound;
+        return Ok(());
     }
     layout::account_found(account, 7)
 }
 
 // Field 9, by service and type.
-pub fn kid_sound(r: &[u8], service: u8) -> bool
-    requires { (length r.now ≡ record_bytes) × (service ≡ service_code r.now) }
+#[tactic(auto, unfolding(rules::specs::Payments::kid_form))]
+pub fn kid_sound(r: &Record, service: u8) -> bool
+    requires { service ≡ service_code r.now }
     ensures { result ≡ kid_form (service_code r.now) (type_code r.now) (part 50 74 r.now) }
 {
     if service == 1 {

@@ -1,15 +1,16 @@
 -- A date read two digits at a time is the date that its six digits read as.
 -- Assumes nothing.
+use Rattle.std.proofs.Common.{Option, Some, None, ℕ}
 use Prim.Native.Nat.{ℕ, ◌+◌, ◌*◌, ◌/◌, ◌%◌, ◌<◌}
 use mathlib.Core.Path.{◌≡◌, refl, ap, sym, ◌∙◌}
 use mathlib.Core.List.{List}
 use mathlib.Core.Bool.{true, false}
 use native.Mathlib.Omega.{arith}
 use lib.ListN.{length}
-use Rattle.dates.specs.Dates.{day_of, day_told, read_day}
+use Rattle.dates.specs.Dates.{day_of, read_day}
 use Rattle.dates.specs.declared.Date.{Date}
 use Rattle.fields.specs.Bytes.{every, is_digit, part}
-use Rattle.fields.specs.Numbers.{value, number_of, pairs_of, paired, Digits, Number, NotDigits, DigitPairs, Pairs, NoPairs}
+use Rattle.fields.specs.Numbers.{value, number_of, pairs_of, paired}
 use Rattle.fields.proofs.Values.{number_is, number_not, number_yes}
 use Rattle.fields.proofs.Width.{below_at}
 
@@ -61,38 +62,38 @@ day_by_pairs p n h e =
     ap (λ (z : ℕ). day_of (2000 + z / 0x1000000000000 % 0x100) (z / 0x100000000 % 0x100) (z / 0x10000 % 0x100)) (e ∙ as_numbers n h)
     ∙ same_day (n % 100) (n / 100 % 100) (n / 10000) (two_digits n) (two_digits (n / 100)) (few_days n h)
 
-pairs_one : (a b : ℕ) → Pairs a ≡ Pairs b → a ≡ b
+pairs_one : (a b : ℕ) → Some a ≡ Some b → a ≡ b
 pairs_one a b h = cc
 
-some_pairs : (n : ℕ) → Pairs n ≡ NoPairs → ⊥
+some_pairs : (n : ℕ) → Some n ≡ None → ⊥
 some_pairs n h = let z : ◌≡◌ {A = ℕ} 0 1 = cc in omega arith
 
 -- a field of six digits that the code read in pairs
-module _ (s : List ℕ) (d : DigitPairs) (e : d ≡ paired (number_of s)) where
-  pub pairs_fail : d ≡ NoPairs → every is_digit s ≡ false
+module _ (s : List ℕ) (d : Option ℕ) (e : d ≡ paired (number_of s)) where
+  pub pairs_fail : d ≡ None → every is_digit s ≡ false
   pairs_fail h = go (number_of s) refl (sym e ∙ h)
     where
-      go : (x : Digits) → number_of s ≡ x → paired x ≡ NoPairs → every is_digit s ≡ false
-      go (Number n) g k = absurd (some_pairs (pairs_of n) k)
-      go NotDigits g k = number_not s g
+      go : (x : Option ℕ) → number_of s ≡ x → paired x ≡ None → every is_digit s ≡ false
+      go (Some n) g k = absurd (some_pairs (pairs_of n) k)
+      go None g k = number_not s g
 
-  pub pairs_pass : (p : ℕ) → d ≡ Pairs p → (every is_digit s ≡ true) × (p ≡ pairs_of (value s))
+  pub pairs_pass : (p : ℕ) → d ≡ Some p → (every is_digit s ≡ true) × (p ≡ pairs_of (value s))
   pairs_pass p h = go (number_of s) refl (sym e ∙ h)
     where
-      go : (x : Digits) → number_of s ≡ x → paired x ≡ Pairs p → (every is_digit s ≡ true) × (p ≡ pairs_of (value s))
-      go (Number n) g k =
+      go : (x : Option ℕ) → number_of s ≡ x → paired x ≡ Some p → (every is_digit s ≡ true) × (p ≡ pairs_of (value s))
+      go (Some n) g k =
           let both = number_is s n g in
           (both.0, sym (pairs_one (pairs_of n) p k) ∙ ap pairs_of (sym both.1))
-      go NotDigits g k = absurd (some_pairs p (sym k))
+      go None g k = absurd (some_pairs p (sym k))
 
 -- a date field of digits has six of them
 pub six_digits : (r : List ℕ) → length r ≡ 81 → every is_digit (part 16 21 r) ≡ true → value (part 16 21 r) < 1000000
 six_digits r h e = below_at 16 21 r _ (omega arith) (number_yes (part 16 21 r) e)
 
--- a date field that was read in pairs, and of them a date: its bytes are digits, and the date that they read as is told
-pub date_read : (r : List ℕ) (d : DigitPairs) (p : ℕ) (x : Date) → length r ≡ 81 → d ≡ paired (number_of (part 16 21 r)) → d ≡ Pairs p
-    → ((n : ℕ) → n < 1000000 → p ≡ pairs_of n → day_told x ≡ read_day n)
-    → (every is_digit (part 16 21 r) ≡ true) × (read_day (value (part 16 21 r)) ≡ day_told x)
+-- a date field that was read in pairs, and of them a day or none: its bytes are digits, and they read as that
+pub date_read : (r : List ℕ) (d : Option ℕ) (p : ℕ) (x : Option Date) → length r ≡ 81 → d ≡ paired (number_of (part 16 21 r)) → d ≡ Some p
+    → ((n : ℕ) → n < 1000000 → p ≡ pairs_of n → x ≡ read_day n)
+    → (every is_digit (part 16 21 r) ≡ true) × (read_day (value (part 16 21 r)) ≡ x)
 date_read r d p x l e g h =
     let pass = pairs_pass (part 16 21 r) d e p g in
     (pass.0, sym (h (value (part 16 21 r)) (six_digits r l pass.0) pass.1))

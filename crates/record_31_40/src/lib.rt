@@ -2,58 +2,41 @@
 
 #![tactic(auto)]
 
-ghost use Rattle.std.specs.Prelude.{◌≡◌, true, List, ◌++◌, ℕ, length};
-ghost use Rattle.limits.specs.Limits.{record_bytes};
-ghost use Rattle.fields.specs.Bytes.{every, is_text, part, Inside};
+ghost use Rattle.std.specs.Prelude.{◌≡◌, true, List, ℕ};
+ghost use Rattle.fields.specs.Bytes.{part, Inside};
 ghost use Rattle.layout.specs.Rows.{first_fault, AllHold};
 ghost use Rattle.rules.specs.Codes.{type_code};
-ghost use Rattle.rules.specs.Layouts.{repeats, texts31, address40, record31, record40};
+ghost use Rattle.rules.specs.Layouts.{texts31, address40, record31, record40};
 ghost use Rattle.rules.specs.Payments.{name_form, postal_form, filler_form};
-ghost use Rattle.record_31_40.specs.Pieces.{own_fields};
 
 use field_bytes::classes::Class;
-use figures::counts::TransactionNumber;
 use figures::totals::Totals;
-use layout::Finding;
+use layout::Reason::{NotFixed, WrongForm};
+use layout::{Finding, demand};
+use limits::Record;
 use rules::Assignment;
-use services::Service;
-
-// What such a record has of its own: the texts of a 31, the address of a 40.
-#[derive(Clone, Copy)]
-enum Detail {
-    Texts,
-    Address,
-}
-
-// Text from one position to another.
-fn text_at(r: &[u8], from: usize, to: usize) -> bool
-    requires { Inside from to r.now }
-    ensures { result ≡ every is_text (part from to r.now) }
-{
-    fields::all_at(Class::Text, r, from, to)
-}
 
 // Fields 6 to 9 of a record 31 hold. Zeros are text too, so that 64 positions are tested at once.
-fn sound31(r: &[u8]) -> bool
-    requires { length r.now ≡ record_bytes }
+fn sound31(r: &Record) -> bool
     ensures { result ≡ true → (f : Totals) (ks : List ℕ) → AllHold f ks r.now texts31 }
 {
     fields::all_at(Class::Text, r, 16, 79) & fields::few_zeros_at(r, 76, 80)
 }
 
-// Fields 6 to 9 of a record 31, for their first fault.
-pub fn texts(r: &[u8]) -> Finding
-    requires { length r.now ≡ record_bytes }
+// Fields 6 to 9 of a record 31, for their first fault. Kept out of the loop over records, which looks for it in few of them.
+#[inline(never)]
+#[tactic(auto, unfolding(layout::specs::Rows::first_fault))]
+pub fn texts(r: &Record) -> Finding
     ensures { (f : Totals) (ks : List ℕ) → result ≡ first_fault f ks r.now texts31 }
 {
-    Finding::Sound
-        .demand(text_at(r, 16, 25), 8, 6)
-        .demand(text_at(r, 26, 50), 8, 7)
-        .demand(text_at(r, 51, 75), 8, 8)
-        .demand(fields::all_at(Class::Zero, r, 76, 80), 7, 9)
+    demand(fields::all_at(Class::Text, r, 16, 25), WrongForm, 6)?;
+    demand(fields::all_at(Class::Text, r, 26, 50), WrongForm, 7)?;
+    demand(fields::all_at(Class::Text, r, 51, 75), WrongForm, 8)?;
+    demand(fields::all_at(Class::Zero, r, 76, 80), NotFixed, 9)
 }
 
 // Text; for type 04 not blank.
+#[tactic(auto, unfolding(rules::specs::Payments::name_form))]
 fn name_at(code: u8, r: &[u8], from: usize, to: usize) -> bool
     requires { Inside from to r.now }
     ensures { result ≡ name_form code (part from to r.now) }
@@ -66,6 +49,7 @@ fn name_at(code: u8, r: &[u8], from: usize, to: usize) -> bool
 }
 
 // Digits or blanks; for type 04 digits.
+#[tactic(auto, unfolding(rules::specs::Payments::postal_form))]
 fn postal_at(code: u8, r: &[u8], from: usize, to: usize) -> bool
     requires { Inside from to r.now }
     ensures { result ≡ postal_form code (part from to r.now) }
@@ -77,6 +61,7 @@ fn postal_at(code: u8, r: &[u8], from: usize, to: usize) -> bool
 }
 
 // Digits or blanks; for type 04 blanks.
+#[tactic(auto, unfolding(rules::specs::Payments::filler_form))]
 fn filler_at(code: u8, r: &[u8], from: usize, to: usize) -> bool
     requires { Inside from to r.now }
     ensures { result ≡ filler_form code (part from to r.now) }
@@ -88,8 +73,8 @@ fn filler_at(code: u8, r: &[u8], from: usize, to: usize) -> bool
 }
 
 // Fields 6 to 10 of a record 40 of this type hold.
-fn sound40(r: &[u8], code: u8) -> bool
-    requires { length r.now ≡ record_bytes }
+#[tactic(auto, unfolding(layout::specs::Rows::AllHold))]
+fn sound40(r: &Record, code: u8) -> bool
     ensures { result ≡ true → (f : Totals) (ks : List ℕ) → AllHold f ks r.now (address40 code) }
 {
     name_at(code, r, 16, 45)
@@ -99,57 +84,38 @@ fn sound40(r: &[u8], code: u8) -> bool
         & fields::all_at(Class::Zero, r, 78, 80)
 }
 
-// Fields 6 to 10 of a record 40 of its own type, for their first fault.
-pub fn address(r: &[u8]) -> Finding
-    requires { length r.now ≡ record_bytes }
+// Fields 6 to 10 of a record 40 of its own type, for their first fault. Kept out of the loop too.
+#[inline(never)]
+#[tactic(auto, unfolding(layout::specs::Rows::first_fault))]
+pub fn address(r: &Record) -> Finding
     ensures { (f : Totals) (ks : List ℕ) → result ≡ first_fault f ks r.now (address40 (type_code r.now)) }
 {
     let code = fields::code_at(r, 5);
-    Finding::Sound
-        .demand(name_at(code, r, 16, 45), 8, 6)
-        .demand(postal_at(code, r, 46, 49), 8, 7)
-        .demand(filler_at(code, r, 50, 52), 8, 8)
-        .demand(name_at(code, r, 53, 77), 8, 9)
-        .demand(fields::all_at(Class::Zero, r, 78, 80), 7, 10)
+    demand(name_at(code, r, 16, 45), WrongForm, 6)?;
+    demand(postal_at(code, r, 46, 49), WrongForm, 7)?;
+    demand(filler_at(code, r, 50, 52), WrongForm, 8)?;
+    demand(name_at(code, r, 53, 77), WrongForm, 9)?;
+    demand(fields::all_at(Class::Zero, r, 78, 80), NotFixed, 10)
 }
 
-// The first fault of a 31 or 40 that is not sound. Both checks call it, so that the compiler keeps the search out of the loop over records.
-fn look(detail: Detail, r: &[u8], service: Service, code: u8, number: TransactionNumber) -> Finding
-    requires { length r.now ≡ record_bytes }
-    ensures { (a : Assignment) → a.service ≡ service → a.code ≡ code → a.number ≡ number → (f : Totals) (ks : List ℕ) → result ≡ first_fault f ks r.now (repeats a r.now ++ own_fields detail r.now) }
-{
-    let head = record_shared::repeating(r, service, code, number);
-    let Finding::Sound = head else {
-        return head;
-    };
-    match detail {
-        Detail::Texts => texts(r),
-        Detail::Address => address(r),
-    }
-}
-
-pub fn check31(r: &[u8], a: Assignment) -> Finding
-    requires { length r.now ≡ record_bytes }
+// Record 31 whole. Where all of it holds, no fault is looked for.
+pub fn check31(r: &Record, a: Assignment) -> Finding
     ensures { (f : Totals) (ks : List ℕ) → result ≡ first_fault f ks r.now (record31 a r.now) }
 {
-    let service = a.service;
-    let number = a.number;
-    let code = a.code;
-    if record_shared::repeats(r, service, code, number) & sound31(r) {
-        return Finding::Sound;
+    if record_shared::repeats(r, &a) & sound31(r) {
+        return Ok(());
     }
-    look(Detail::Texts, r, service, code, number)
+    record_shared::repeating(r, &a)?;
+    texts(r)
 }
 
-pub fn check40(r: &[u8], a: Assignment) -> Finding
-    requires { length r.now ≡ record_bytes }
+// Record 40 whole, looked at in the same way.
+pub fn check40(r: &Record, a: Assignment) -> Finding
     ensures { (f : Totals) (ks : List ℕ) → result ≡ first_fault f ks r.now (record40 a r.now) }
 {
-    let service = a.service;
-    let number = a.number;
-    let code = a.code;
-    if record_shared::repeats(r, service, code, number) & sound40(r, code) {
-        return Finding::Sound;
+    if record_shared::repeats(r, &a) & sound40(r, a.code) {
+        return Ok(());
     }
-    look(Detail::Address, r, service, code, number)
+    record_shared::repeating(r, &a)?;
+    address(r)
 }

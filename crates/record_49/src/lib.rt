@@ -2,33 +2,24 @@
 
 #![tactic(auto)]
 
-ghost use Rattle.std.specs.Prelude.{◌≡◌, List, ℕ, ◌+◌, ◌<◌, ◌≤◌, length};
-ghost use Rattle.limits.specs.Limits.{record_bytes, most_in_message};
+ghost use Rattle.std.specs.Prelude.{◌≡◌, List, ℕ, ◌+◌, ◌<◌, ◌≤◌};
+ghost use Rattle.std.specs.Option.{ok_or};
+ghost use Rattle.limits.specs.Limits.{most_in_message};
 ghost use Rattle.fields.specs.Bytes.{part, Inside};
+ghost use Rattle.layout.specs.Findings.{fault, brings};
+ghost use Rattle.layout.specs.declared.Reason.TheVariants.{NotFixed};
+ghost use Rattle.layout.specs.Rows.{first_fault};
 ghost use Rattle.rules.specs.Layouts.{free49, place49, message49, fields49, record49};
 ghost use Rattle.rules.specs.Messages.{taken, with_place, is_place, clashes, with49, used, with_at, with_record};
 ghost use Rattle.record_49.specs.Bounds.{up_to};
-ghost use Rattle.record_49.specs.Found.{message_from, PlacedBy};
+ghost use Rattle.record_49.specs.Found.{message_from};
 
 use field_bytes::classes::Class;
-use field_digits::Digits;
-use layout::Finding;
-use limits::MOST_IN_MESSAGE;
+use figures::totals::Totals;
+use layout::Reason::{MessageFull, NotFixed, PlaceTaken, WrongForm};
+use layout::{Fault, demand};
+use limits::{MOST_IN_MESSAGE, Record};
 use rules::{Assignment, Places};
-
-// A number up to its bound, or none.
-#[derive(Clone, Copy)]
-enum Bounded {
-    InBounds(u64),
-    OutOfBounds,
-}
-
-// What a record 49 is found to be, and the places after it where it is sound.
-#[derive(Clone, Copy)]
-pub struct Placed {
-    pub finding: Finding,
-    pub places: Places,
-}
 
 // The place is among those taken.
 fn is_taken(mask: u64, place: u64) -> bool
@@ -65,10 +56,11 @@ fn is_clash(places: Places, line: u64, column: u64) -> bool
 }
 
 // The number of places taken plus the number of unplaced records.
+#[tactic(auto, unfolding(rules::specs::Messages::used))]
 fn used_in(places: Places) -> u64
     ensures { result ≡ used places }
 {
-    u64::count_ones(places.mask) as u64 + places.unplaced as u64
+    u64::from(places.mask.count_ones()) + u64::from(places.unplaced)
 }
 
 // The places after a record on this line and in this column.
@@ -88,109 +80,69 @@ fn with_record(places: Places, line: u64, column: u64) -> Places
     }
 }
 
-// A field of digits whose number is at most `most`.
-fn number_up_to(r: &[u8], from: usize, to: usize, most: u64) -> Bounded
+// A field of digits whose number is at most `most`. One that is no such number is not fixed, and never of the wrong form.
+#[tactic(auto, unfolding(crate::specs::Bounds::up_to, crate::specs::Bounds::is_up_to, fields::specs::Numbers::number_of))]
+fn number_up_to(r: &[u8], field: u8, from: usize, to: usize, most: u64) -> Result<u64, Fault>
     requires { Inside from to r.now × (to ≤ from + 16) }
-    ensures { result ≡ up_to most (part from to r.now) }
+    ensures { result ≡ ok_or (up_to most (part from to r.now)) (fault NotFixed field) }
 {
-    let Digits::Number(n) = fields::few_digits_at(r, from, to) else {
-        return Bounded::OutOfBounds;
-    };
-    if most < n {
-        return Bounded::OutOfBounds;
-    }
-    Bounded::InBounds(n)
-}
-
-// A record 49 with a fault leaves no places.
-fn faulty(number: u8, field: u8) -> Placed
-    ensures { result.finding ≡ Finding.Fault number field }
-{
-    Placed {
-        finding: Finding::Fault(number, field),
-        places: Places::none(),
+    match fields::few_digits_at(r, from, to) {
+        Some(n) if n <= most => Ok(n),
+        _ => Err(Fault {
+            reason: NotFixed,
+            field,
+        }),
     }
 }
 
-// What line and column find of the message: 17 where their place is taken, 23 where the message has no room for one record more.
-fn put_on(places: Places, line: u64, column: u64) -> Placed
+// The places after line and column of a message, or what they find of it: its place is taken, or the message has no room for one record more.
+fn put_on(places: Places, line: u64, column: u64) -> Result<Places, Fault>
     requires { (line ≤ 21) × (column ≤ 2) }
-    ensures { (r : List ℕ) → PlacedBy (free49 places line column) (with49 places line column) r result }
+    ensures { (f : Totals) (ks r : List ℕ) → result ≡ brings (first_fault f ks r (free49 places line column)) (with49 places line column) }
 {
-    if is_clash(places, line, column) {
-        return faulty(17, 7);
-    }
-    if MOST_IN_MESSAGE <= used_in(places) {
-        return faulty(23, 7);
-    }
-    Placed {
-        finding: Finding::Sound,
-        places: with_record(places, line, column),
-    }
+    demand(!is_clash(places, line, column), PlaceTaken, 7)?;
+    demand(used_in(places) < MOST_IN_MESSAGE, MessageFull, 7)?;
+    Ok(with_record(places, line, column))
 }
 
-// Line and column of a message, and what they find of it: `field` and `from` are the line's. A line or column that is no such number gives 7, never 8.
-fn placing(r: &[u8], places: Places, field: u8, from: usize) -> Placed
-    requires { (length r.now ≡ record_bytes) × (1 ≤ from) × (from ≤ 17) × (field ≤ 7) }
-    ensures { PlacedBy (place49 (message_from field from) places r.now) (with_at (message_from field from) places r.now) r.now result }
+// Line and column of a message, and what they find of it: `field` and `from` are the line's.
+#[tactic(auto, unfolding(layout::specs::Rows::first_fault, rules::specs::Payments::is_line, rules::specs::Payments::is_column, crate::specs::Bounds::up_to, crate::specs::Bounds::is_up_to))]
+fn placing(r: &Record, places: Places, field: u8, from: usize) -> Result<Places, Fault>
+    requires { (1 ≤ from) × (from ≤ 17) × (field ≤ 7) }
+    ensures { (f : Totals) (ks : List ℕ) → result ≡ brings (first_fault f ks r.now (place49 (message_from field from) places r.now)) (with_at (message_from field from) places r.now) }
 {
-    let Bounded::InBounds(line) = number_up_to(r, from, from + 2, 21) else {
-        return faulty(7, field);
-    };
-    let Bounded::InBounds(column) = number_up_to(r, from + 3, from + 3, 2) else {
-        return faulty(7, field + 1);
-    };
+    let line = number_up_to(r, field, from, from + 2, 21)?;
+    let column = number_up_to(r, field + 1, from + 3, from + 3, 2)?;
     put_on(places, line, column)
 }
 
 // A message from its line on, which is `field` and stands at `from`.
-fn message(r: &[u8], places: Places, field: u8, from: usize) -> Placed
-    requires { (length r.now ≡ record_bytes) × (1 ≤ from) × (from ≤ 17) × (field ≤ 7) }
-    ensures { PlacedBy (message49 (message_from field from) places r.now) (with_at (message_from field from) places r.now) r.now result }
+fn message(r: &Record, places: Places, field: u8, from: usize) -> Result<Places, Fault>
+    requires { (1 ≤ from) × (from ≤ 17) × (field ≤ 7) }
+    ensures { (f : Totals) (ks : List ℕ) → result ≡ brings (first_fault f ks r.now (message49 (message_from field from) places r.now)) (with_at (message_from field from) places r.now) }
 {
-    let placed = placing(r, places, field, from);
-    let found = placed.finding;
-    let Finding::Sound = found else {
-        return placed;
-    };
-    let after = placed.places;
-    Placed {
-        finding: found
-            .demand(
-                fields::all_at(Class::Text, r, from + 4, from + 43),
-                8,
-                field + 2,
-            )
-            .demand(fields::zeros_from(r, from + 44), 7, field + 3),
-        places: after,
-    }
+    let after = placing(r, places, field, from)?;
+    let text = fields::all_at(Class::Text, r, from + 4, from + 43);
+    demand(text, WrongForm, field + 2)?;
+    demand(fields::zeros_from(r, from + 44), NotFixed, field + 3)?;
+    Ok(after)
 }
 
 // Fields 6 on of a 49, as its service has them: a message, and before it the notification code where the service is not 04.
-pub fn own_fields(r: &[u8], places: Places) -> Placed
-    requires { length r.now ≡ record_bytes }
-    ensures { PlacedBy (fields49 places r.now) (with_record places r.now) r.now result }
+pub fn own_fields(r: &Record, places: Places) -> Result<Places, Fault>
+    ensures { (f : Totals) (ks : List ℕ) → result ≡ brings (first_fault f ks r.now (fields49 places r.now)) (with_record places r.now) }
 {
     if fields::code_at(r, 3) == 4 {
         return message(r, places, 6, 16);
     }
-    if !fields::same_at(r, 16, 16, b"3") {
-        return faulty(7, 6);
-    }
+    demand(fields::same_at(r, 16, 16, b"3"), NotFixed, 6)?;
     message(r, places, 7, 17)
 }
 
-// Record 49 whole: the first fault in the order of its fields, or the places after it.
-pub fn check49(r: &[u8], a: Assignment) -> Placed
-    requires { length r.now ≡ record_bytes }
-    ensures { PlacedBy (record49 a r.now) (with_record a.places r.now) r.now result }
+// Record 49 whole: the places after it, or the first fault in the order of its fields.
+pub fn check49(r: &Record, a: Assignment) -> Result<Places, Fault>
+    ensures { (f : Totals) (ks : List ℕ) → result ≡ brings (first_fault f ks r.now (record49 a r.now)) (with_record a.places r.now) }
 {
-    let service = a.service;
-    let number = a.number;
-    let places = a.places;
-    let head = record_shared::repeating(r, service, a.code, number);
-    if let Finding::Fault(fault, field) = head {
-        return faulty(fault, field);
-    }
-    own_fields(r, places)
+    record_shared::repeating(r, &a)?;
+    own_fields(r, a.places)
 }

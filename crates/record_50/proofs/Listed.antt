@@ -8,9 +8,9 @@ use native.Mathlib.Omega.{arith}
 use borrow.Author.Tests.{eqb-true}
 use lib.Dec.{eqb, lit<}
 use lib.ListN.{length}
-use Rattle.std.specs.Prelude.{if◌then◌else◌}
+use Rattle.std.specs.Prelude.{if◌then◌else◌, Some}
 use Rattle.fields.specs.Bytes.{every, same, text, is_digit}
-use Rattle.fields.specs.Numbers.{Number, value, written, code_of}
+use Rattle.fields.specs.Numbers.{value, written, code_of}
 use Rattle.fields.proofs.Every.{same_self}
 use Rattle.fields.proofs.Values.{number_yes}
 use Rattle.fields.proofs.Width.{digit_field}
@@ -23,7 +23,7 @@ unfolding code_of
 of_code s t n l h w e = go (every is_digit s) refl e
   where
     go : (b : Bool) → every is_digit s ≡ b → (if b then value s else 100) ≡ n → same s t ≡ true
-    go true d e = ap (λ (x : List ℕ). same x t) (sym ((digit_field 2).writes_back s n l (number_yes s d ∙ ap Number e)) ∙ w) ∙ same_self t
+    go true d e = ap (λ (x : List ℕ). same x t) (sym ((digit_field 2).writes_back s n l (number_yes s d ∙ ap Some e)) ∙ w) ∙ same_self t
     go false d e = absurd (omega arith)
 
 -- a code that is 16 or 17 is one of the two texts

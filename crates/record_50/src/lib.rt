@@ -2,67 +2,47 @@
 
 #![tactic(auto)]
 
-ghost use Rattle.std.specs.Prelude.{◌≡◌, true, List, ◌++◌, ℕ, eqb, length, if◌then◌else◌};
-ghost use Rattle.limits.specs.Limits.{record_bytes};
-ghost use Rattle.layout.specs.Rows.{first_fault, AllHold};
+ghost use Rattle.std.specs.Prelude.{◌≡◌, true, List, ◌++◌, ℕ, eqb, if◌then◌else◌};
 ghost use Rattle.fields.specs.Bytes.{part};
+ghost use Rattle.figures.specs.Figures.{amount};
+ghost use Rattle.layout.specs.Findings.{brings};
+ghost use Rattle.layout.specs.Rows.{first_fault, AllHold};
 ghost use Rattle.rules.specs.Codes.{service_code};
-ghost use Rattle.rules.specs.Layouts.{head50, kid50};
+ghost use Rattle.rules.specs.Layouts.{head50, kid50, sum50, amount50, record50};
 ghost use Rattle.rules.specs.Payments.{is_kid_of};
-ghost use Rattle.record_50.specs.Found.{AmountBy, SpecifiedBy};
 
-use field_digits::Digits;
 use figures::amounts::Amount;
 use figures::groups::Group;
 use figures::totals::Totals;
-use layout::Finding;
-use limits::MOST_OF_ALL;
+use layout::Reason::{NotFixed, PastLimit, WrongForm};
+use layout::{Fault, Finding, demand};
+use limits::{MOST_OF_ALL, Record};
+use record_shared::digits_at;
 use rules::Assignment;
 
-// What a record 50 is found to be, and its amount where it is sound.
-#[derive(Clone, Copy)]
-pub struct Specified {
-    pub finding: Finding,
-    pub amount: Amount,
-}
-
 // Fields 1 to 5 of a record 50.
-fn heading(r: &[u8], a: Assignment) -> Finding
-    requires { length r.now ≡ record_bytes }
-    ensures { (f : Totals) (ks : List ℕ) → result ≡ first_fault f ks r.now (head50 a r.now) }
+fn heading(r: &Record, a: &Assignment) -> Finding
+    ensures { (f : Totals) (ks : List ℕ) → result ≡ first_fault f ks r.now (head50 a.now r.now) }
 {
-    let service = a.service;
-    let number = a.number;
-    let head = record_shared::belonging(r, service).demand(
-        fields::same_at(r, 5, 6, b"16") | fields::same_at(r, 5, 6, b"17"),
-        7,
-        3,
-    );
-    let Finding::Sound = head else {
-        return head;
-    };
-    record_shared::same_number(r, number)
+    let listed = fields::same_at(r, 5, 6, b"16") | fields::same_at(r, 5, 6, b"17");
+    record_shared::belonging(r, a)?;
+    demand(listed, NotFixed, 3)?;
+    record_shared::same_number(r, a)
 }
 
 // Fields 1 to 5 of a record 50 are those of its transaction: told at once.
-fn headed(r: &[u8], a: Assignment) -> bool
-    requires { length r.now ≡ record_bytes }
-    ensures { result ≡ true → (f : Totals) (ks : List ℕ) → AllHold f ks r.now (head50 a r.now) }
+fn headed(r: &Record, a: &Assignment) -> bool
+    ensures { result ≡ true → (f : Totals) (ks : List ℕ) → AllHold f ks r.now (head50 a.now r.now) }
 {
-    let service = a.service;
-    let number = a.number;
     let code = fields::code_at(r, 5);
-    let Digits::Number(n) = fields::number_at(r, 9, 15) else {
-        return false;
-    };
-    record_shared::belongs_to(r, service)
+    record_shared::belongs_to(r, a.service)
         & ((code == 16) | (code == 17))
-        & record_shared::numbered(n).equals(number)
+        & (record_shared::transaction_number(r) == Ok(a.number))
 }
 
 // Field 6 of a record 50, a KID; service 01 takes only the right end.
-pub fn kid_sound(r: &[u8]) -> bool
-    requires { length r.now ≡ record_bytes }
+#[tactic(auto, unfolding(rules::specs::Payments::is_kid_of))]
+pub fn kid_sound(r: &Record) -> bool
     ensures { result ≡ is_kid_of (service_code r.now) (part 16 40 r.now) }
 {
     if fields::code_at(r, 3) == 1 {
@@ -72,28 +52,14 @@ pub fn kid_sound(r: &[u8]) -> bool
 }
 
 // Fields 1 to 6 of a record 50. Where all of it holds, no fault is looked for.
-fn referring(r: &[u8], a: Assignment) -> Finding
-    requires { length r.now ≡ record_bytes }
-    ensures { (f : Totals) (ks : List ℕ) → result ≡ first_fault f ks r.now (head50 a r.now ++ kid50 r.now) }
+fn referring(r: &Record, a: &Assignment) -> Finding
+    ensures { (f : Totals) (ks : List ℕ) → result ≡ first_fault f ks r.now (head50 a.now r.now ++ kid50 r.now) }
 {
     if headed(r, a) & kid_sound(r) {
-        return Finding::Sound;
+        return Ok(());
     }
-    let head = heading(r, a);
-    let Finding::Sound = head else {
-        return head;
-    };
-    head.demand(kid_sound(r), 8, 6)
-}
-
-// A record 50 with a fault specifies nothing.
-fn unspecified(number: u8, field: u8) -> Specified
-    ensures { result.finding ≡ Finding.Fault number field }
-{
-    Specified {
-        finding: Finding::Fault(number, field),
-        amount: Amount(0),
-    }
+    heading(r, a)?;
+    demand(kid_sound(r), WrongForm, 6)
 }
 
 // The sum that a record 50 of this type adds to.
@@ -107,39 +73,22 @@ fn sum_for(code: u8, group: Group) -> Amount
 }
 
 // Field 7 of a record 50, which its sum has room for.
-fn specifying(r: &[u8], a: Assignment) -> Specified
-    requires { length r.now ≡ record_bytes }
-    ensures { AmountBy a r.now result }
+#[tactic(auto, unfolding(layout::specs::Rows::first_fault, fields::specs::Numbers::number_of))]
+fn specifying(r: &Record, a: &Assignment) -> Result<Amount, Fault>
+    ensures { (f : Totals) (ks : List ℕ) → result ≡ brings (first_fault f ks r.now (sum50 a.now r.now)) (amount (amount50 r.now)) }
 {
-    let Digits::Number(n) = fields::number_at(r, 41, 57) else {
-        return unspecified(8, 7);
-    };
-    let group = a.group;
-    let amount = Amount(n);
-    let sum = sum_for(fields::code_at(r, 5), group);
-    Specified {
-        finding: Finding::Sound.demand(sum.holds(amount, Amount(MOST_OF_ALL)), 13, 7),
-        amount,
-    }
+    let n = digits_at(r, 7, 41, 57)?;
+    let sum = sum_for(fields::code_at(r, 5), a.group);
+    demand(sum.holds(Amount(n), Amount(MOST_OF_ALL)), PastLimit, 7)?;
+    Ok(Amount(n))
 }
 
-// Record 50 whole: the first fault in the order of its fields, or its amount.
-pub fn check50(r: &[u8], a: Assignment) -> Specified
-    requires { length r.now ≡ record_bytes }
-    ensures { SpecifiedBy a r.now result }
+// Record 50 whole: its amount, or the first fault in the order of its fields.
+pub fn check50(r: &Record, a: Assignment) -> Result<Amount, Fault>
+    ensures { (f : Totals) (ks : List ℕ) → result ≡ brings (first_fault f ks r.now (record50 a r.now)) (amount (amount50 r.now)) }
 {
-    let head = referring(r, a);
-    if let Finding::Fault(fault, field) = head {
-        return unspecified(fault, field);
-    }
-    let specified = specifying(r, a);
-    let found = specified.finding;
-    let Finding::Sound = found else {
-        return specified;
-    };
-    let amount = specified.amount;
-    Specified {
-        finding: found.demand(fields::zeros_from(r, 58), 7, 8),
-        amount,
-    }
+    referring(r, &a)?;
+    let amount = specifying(r, &a)?;
+    demand(fields::zeros_from(r, 58), NotFixed, 8)?;
+    Ok(amount)
 }

@@ -2,52 +2,72 @@
 
 #![tactic(auto)]
 
-ghost use Rattle.std.specs.Prelude.{◌≡◌, true, List, ℕ, ◌<◌, length};
-ghost use Rattle.limits.specs.Limits.{record_bytes};
+ghost use Rattle.std.specs.Prelude.{◌≡◌, true, List, [], ◌∷◌, ℕ, ◌≤◌, ◌+◌};
+ghost use Rattle.std.specs.Option.{ok_or};
+ghost use Rattle.fields.specs.Bytes.{part, Inside};
+ghost use Rattle.fields.specs.Numbers.{number_of};
 ghost use Rattle.figures.specs.Figures.{transaction_number};
+ghost use Rattle.layout.specs.Findings.{fault, brings};
+ghost use Rattle.layout.specs.declared.Reason.TheVariants.{WrongForm};
+ghost use Rattle.layout.specs.Rules.{digits};
 ghost use Rattle.layout.specs.Rows.{first_fault, AllHold};
+ghost use Rattle.rules.specs.Fields.{on, number_in, transaction_field};
 ghost use Rattle.rules.specs.Layouts.{outside, belongs, same_number, repeats};
 ghost use Rattle.record_shared.specs.Heads.{Belonging};
 
-use field_digits::Digits;
 use figures::counts::TransactionNumber;
 use figures::totals::Totals;
-use layout::Finding;
+use layout::Reason::{Disagrees, NotFixed, WrongForm};
+use layout::{Fault, Finding, demand};
+use limits::Record;
 use rules::Assignment;
 use services::Service;
 
-// A number of seven digits as a transaction's.
-pub fn numbered(n: u64) -> TransactionNumber
-    requires { n < 10000000 }
-    ensures { result ≡ transaction_number n }
+// The number that a field of digits writes; 8 where its bytes are none.
+pub fn digits_at(r: &[u8], field: u8, from: usize, to: usize) -> Result<u64, Fault>
+    requires { Inside from to r.now × (to ≤ from + 16) }
+    ensures { result ≡ ok_or (number_of (part from to r.now)) (fault WrongForm field) }
 {
-    TransactionNumber(n as u32)
+    let Some(n) = fields::number_at(r, from, to) else {
+        return Err(Fault {
+            reason: WrongForm,
+            field,
+        });
+    };
+    Ok(n)
+}
+
+// Field 5, a transaction's number.
+#[tactic(auto, unfolding(layout::specs::Rows::first_fault, fields::specs::Numbers::number_of))]
+pub fn transaction_number(r: &Record) -> Result<TransactionNumber, Fault>
+    ensures { (f : Totals) (ks : List ℕ) → result ≡ brings (first_fault f ks r.now (on transaction_field digits ∷ [])) (transaction_number (number_in transaction_field r.now)) }
+{
+    let n = digits_at(r, 5, 9, 15)?;
+    Ok(TransactionNumber(n as u32))
 }
 
 // Fields 1 to 3 of 10 and 89.
-pub fn outside(r: &[u8]) -> Finding
-    requires { length r.now ≡ record_bytes }
+#[tactic(auto, unfolding(layout::specs::Rows::first_fault))]
+pub fn outside(r: &Record) -> Finding
     ensures { (f : Totals) (ks : List ℕ) → result ≡ first_fault f ks r.now outside }
 {
-    Finding::Sound
-        .demand(fields::same_at(r, 1, 2, b"NY"), 7, 1)
-        .demand(fields::same_at(r, 3, 4, b"00"), 7, 2)
-        .demand(fields::same_at(r, 5, 6, b"00"), 7, 3)
+    demand(fields::same_at(r, 1, 2, b"NY"), NotFixed, 1)?;
+    demand(fields::same_at(r, 3, 4, b"00"), NotFixed, 2)?;
+    demand(fields::same_at(r, 5, 6, b"00"), NotFixed, 3)
 }
 
-// Fields 1 and 2 within an assignment of the service.
-pub fn belonging(r: &[u8], service: Service) -> Finding
-    requires { length r.now ≡ record_bytes }
-    ensures { (a : Assignment) → a.service ≡ service → (f : Totals) (ks : List ℕ) → result ≡ first_fault f ks r.now (belongs a r.now) }
+// Fields 1 and 2 within the assignment.
+#[tactic(auto, unfolding(layout::specs::Rows::first_fault))]
+pub fn belonging(r: &Record, a: &Assignment) -> Finding
+    ensures { (f : Totals) (ks : List ℕ) → result ≡ first_fault f ks r.now (belongs a.now r.now) }
 {
-    Finding::Sound
-        .demand(fields::same_at(r, 1, 2, b"NY"), 7, 1)
-        .demand(fields::code_at(r, 3) == services::code_for(service), 12, 2)
+    demand(fields::same_at(r, 1, 2, b"NY"), NotFixed, 1)?;
+    let service = services::code_for(a.service);
+    demand(fields::code_at(r, 3) == service, Disagrees, 2)
 }
 
 // Fields 1 and 2 belong to an assignment of the service: told by one comparison, of NY and the service's code as one number.
-pub fn belongs_to(r: &[u8], service: Service) -> bool
-    requires { length r.now ≡ record_bytes }
+pub fn belongs_to(r: &Record, service: Service) -> bool
     ensures { result ≡ true → Belonging service r.now }
 {
     let four = fields::four_at(r, 1);
@@ -57,40 +77,31 @@ pub fn belongs_to(r: &[u8], service: Service) -> bool
     }
 }
 
-// Field 5, the number of the transaction at hand.
-pub fn same_number(r: &[u8], number: TransactionNumber) -> Finding
-    requires { length r.now ≡ record_bytes }
-    ensures { (a : Assignment) → a.number ≡ number → (f : Totals) (ks : List ℕ) → result ≡ first_fault f ks r.now (same_number a r.now) }
+// Field 5 repeats the number of the transaction at hand.
+pub fn same_number(r: &Record, a: &Assignment) -> Finding
+    ensures { (f : Totals) (ks : List ℕ) → result ≡ first_fault f ks r.now (same_number a.now r.now) }
 {
-    let Digits::Number(n) = fields::number_at(r, 9, 15) else {
-        return Finding::Fault(8, 5);
-    };
-    Finding::Sound.demand(numbered(n).equals(number), 12, 5)
+    let number = transaction_number(r)?;
+    demand(number == a.number, Disagrees, 5)
 }
 
-// Fields 1 to 5 repeat the record 30 of this service, type and number.
-pub fn repeats(r: &[u8], service: Service, code: u8, number: TransactionNumber) -> bool
-    requires { length r.now ≡ record_bytes }
-    ensures { result ≡ true → (a : Assignment) → a.service ≡ service → a.code ≡ code → a.number ≡ number → (f : Totals) (ks : List ℕ) → AllHold f ks r.now (repeats a r.now) }
+// Fields 1 to 5 repeat the record 30 at hand.
+pub fn repeats(r: &Record, a: &Assignment) -> bool
+    ensures { result ≡ true → (f : Totals) (ks : List ℕ) → AllHold f ks r.now (repeats a.now r.now) }
 {
-    let here = belongs_to(r, service) & (fields::code_at(r, 5) == code);
-    let Digits::Number(n) = fields::number_at(r, 9, 15) else {
-        return false;
-    };
-    here & numbered(n).equals(number)
+    belongs_to(r, a.service)
+        & (fields::code_at(r, 5) == a.code)
+        & (transaction_number(r) == Ok(a.number))
 }
 
 // Fields 1 to 5 of 31, 40, 41 and 49, which repeat their record 30. Where all of them do, no fault is looked for.
-pub fn repeating(r: &[u8], service: Service, code: u8, number: TransactionNumber) -> Finding
-    requires { length r.now ≡ record_bytes }
-    ensures { (a : Assignment) → a.service ≡ service → a.code ≡ code → a.number ≡ number → (f : Totals) (ks : List ℕ) → result ≡ first_fault f ks r.now (repeats a r.now) }
+pub fn repeating(r: &Record, a: &Assignment) -> Finding
+    ensures { (f : Totals) (ks : List ℕ) → result ≡ first_fault f ks r.now (repeats a.now r.now) }
 {
-    if repeats(r, service, code, number) {
-        return Finding::Sound;
+    if repeats(r, a) {
+        return Ok(());
     }
-    let head = belonging(r, service).demand(fields::code_at(r, 5) == code, 12, 3);
-    match head {
-        Finding::Fault(_number, _field) => head,
-        Finding::Sound => same_number(r, number),
-    }
+    belonging(r, a)?;
+    demand(fields::code_at(r, 5) == a.code, Disagrees, 3)?;
+    same_number(r, a)
 }

@@ -22,14 +22,15 @@ use Rattle.rules.specs.declared.Kind.TheVariants.{R10, R20, R30, R31, R40, R41, 
 use Rattle.rules.specs.declared.Mode.{Mode}
 use Rattle.rules.specs.declared.Places.{Places}
 use Rattle.rules.specs.declared.Assignment.{Assignment}
+use Rattle.layout.specs.declared.Reason.TheVariants.{NotAddedUp, NoLineFeed, OutOfPlace, OutOfTime, Disagrees, PastLimit, KeySeen, TooManyAssignments, PlaceTaken, WrongFigure, MessageFull}
 
 -- byte 81 is a line feed, else 4
 abbrev pub line_feed : Rule
-line_feed = rule (λ s. same s (10 ∷ [])) 4
+line_feed = rule (λ s. same s (10 ∷ [])) NoLineFeed
 
 -- the sub-specifications before this record give their amount, else 14
 abbrev pub group_gives : Assignment → Row
-group_gives a = must (gives a.group a.due) 14 0
+group_gives a = must (gives a.group a.due) NotAddedUp 0
 
 -- fields 1 to 3 of 10 and 89, which stand outside assignments
 abbrev pub outside : List Row
@@ -43,19 +44,19 @@ outside =
 abbrev pub belongs : Assignment → List ℕ → List Row
 belongs a r =
     at 1 1 2 (fixed "NY") ∷
-    must (eqb (service_code r) (code_for a.service)) 12 2 ∷
+    must (eqb (service_code r) (code_for a.service)) Disagrees 2 ∷
     []
 
 -- field 5 of the records that repeat the transaction number of their 30
 abbrev pub same_number : Assignment → List ℕ → List Row
 same_number a r =
     on transaction_field digits ∷
-    must (eqb (number_in transaction_field r) a.number.0) 12 5 ∷
+    must (eqb (number_in transaction_field r) a.number.0) Disagrees 5 ∷
     []
 
 -- fields 1 to 5 of 31, 40, 41 and 49
 abbrev pub repeats : Assignment → List ℕ → List Row
-repeats a r = belongs a r ++ (must (eqb (type_code r) a.code) 12 3 ∷ same_number a r)
+repeats a r = belongs a r ++ (must (eqb (type_code r) a.code) Disagrees 3 ∷ same_number a r)
 
 abbrev pub record10 : List Row
 record10 =
@@ -68,7 +69,7 @@ record10 =
 
 -- a 20 may open an assignment: there is room for one more, and the group before it gives its amount
 abbrev pub may_open : Assignment → List Row
-may_open a = file room 16 4 ∷ group_gives a ∷ []
+may_open a = file room TooManyAssignments 4 ∷ group_gives a ∷ []
 
 -- field 2 where it repeats nothing: one of the two services
 abbrev pub a_service : Row
@@ -91,7 +92,7 @@ abbrev pub key20 : List ℕ → List Row
 key20 r =
     on agreement_field digits ∷
     on assignment_field digits ∷
-    file (fresh (key_in r)) 15 6 ∷
+    file (fresh (key_in r)) KeySeen 6 ∷
     []
 
 -- field 7 of 20
@@ -116,14 +117,14 @@ head30 a r = (group_gives a ∷ belongs a r) ++ (a_type r ∷ [])
 abbrev pub number30 : Assignment → List ℕ → List Row
 number30 a r =
     on transaction_field digits ∷
-    must (follows a.number (transaction_number (number_in transaction_field r))) 12 5 ∷
+    must (follows a.number (transaction_number (number_in transaction_field r))) Disagrees 5 ∷
     []
 
 abbrev pub date30 : Window → Assignment → List ℕ → List Row
 date30 w a r =
     on date_field digits ∷
     on date_field a_date ∷
-    must (in_time w a.service (date_in r)) 10 6 ∷
+    must (in_time w a.service (date_in r)) OutOfTime 6 ∷
     []
 
 abbrev pub party30 : List ℕ → List Row
@@ -137,8 +138,8 @@ abbrev pub amount30 : Assignment → List ℕ → List Row
 amount30 a r =
     on amount_field digits ∷
     on amount_field (amount_allowed (type_code r)) ∷
-    must (within a.totals.totals.sum (amount_in r) (limit_for a.service)) 13 8 ∷
-    file (takes (amount_in r)) 13 8 ∷
+    must (within a.totals.totals.sum (amount_in r) (limit_for a.service)) PastLimit 8 ∷
+    file (takes (amount_in r)) PastLimit 8 ∷
     []
 
 -- fields 9 and 10 of 30
@@ -201,8 +202,8 @@ notification49 s = notification_by (eqb s 4)
 -- what line and column find of the message: their place is free, and the message is not past its limit with this record
 abbrev pub free49 : Places → ℕ → ℕ → List Row
 free49 ps line column =
-    must (not (clashes ps line column)) 17 7 ∷
-    must (leb (used (with49 ps line column)) most_in_message) 23 7 ∷
+    must (not (clashes ps line column)) PlaceTaken 7 ∷
+    must (leb (used (with49 ps line column)) most_in_message) MessageFull 7 ∷
     []
 
 -- line and column of 49: the place is judged when the column is sound, before the text
@@ -239,7 +240,7 @@ amount50 r = number_in specified_field r
 abbrev pub sum50 : Assignment → List ℕ → List Row
 sum50 a r =
     on specified_field digits ∷
-    must (within (if eqb (type_code r) 16 then a.group.specified else a.group.credited) (amount (amount50 r)) limit_wide) 13 7 ∷
+    must (within (if eqb (type_code r) 16 then a.group.specified else a.group.credited) (amount (amount50 r)) limit_wide) PastLimit 7 ∷
     []
 
 abbrev pub record50 : Assignment → List ℕ → List Row
@@ -250,7 +251,7 @@ record50 a r =
 
 -- a figure of record 88: Digits, and the assignment's own
 abbrev pub own : Field → List ℕ → ℕ → List Row
-own x r n = on x digits ∷ must (eqb (number_in x r) n) 18 x.number ∷ []
+own x r n = on x digits ∷ must (eqb (number_in x r) n) WrongFigure x.number ∷ []
 
 -- fields 1 to 3 of 88
 abbrev pub head88 : Assignment → List ℕ → List Row
@@ -272,7 +273,7 @@ record88 a r =
 
 -- a figure of record 89: Digits, and the file's own
 abbrev pub of_file : Field → List ℕ → Figure → List Row
-of_file x r w = on x digits ∷ file (figure w (number_in x r)) 18 x.number ∷ []
+of_file x r w = on x digits ∷ file (figure w (number_in x r)) WrongFigure x.number ∷ []
 
 abbrev pub record89 : List ℕ → List Row
 record89 r =
@@ -300,4 +301,4 @@ table_for Other w a r = []
 
 -- all rows of a record: 4, 5, then its table
 abbrev pub rows : Mode → Window → Assignment → List ℕ → List Row
-rows m w a r = at 0 81 81 line_feed ∷ must (may_follow m a (kind_of r)) 5 4 ∷ table_for (kind_of r) w a r
+rows m w a r = at 0 81 81 line_feed ∷ must (may_follow m a (kind_of r)) OutOfPlace 4 ∷ table_for (kind_of r) w a r

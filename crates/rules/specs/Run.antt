@@ -1,17 +1,15 @@
 -- Document 01, "Bytes and days" and "Refusal numbers": the records of a file or a draft in turn, their end, and the answer.
 -- Assumes nothing.
-use Rattle.std.specs.Prelude.{ℕ, zero, suc, ◌+◌, ◌*◌, ◌/◌, ◌%◌, List, [], ◌∷◌, ◌++◌, Bool, true, not, ◌||◌, leb, eqb, length, take, drop, if◌then◌else◌}
+use Rattle.std.specs.Prelude.{ℕ, zero, suc, ◌+◌, ◌*◌, ◌/◌, ◌%◌, List, [], ◌∷◌, ◌++◌, Bool, true, not, ◌||◌, leb, eqb, length, take, drop, if◌then◌else◌, Option, Some, None, Result, Ok, Err}
 use Rattle.limits.specs.Limits.{record_bytes, most_records}
 use Rattle.dates.specs.Windows.{window_of}
 use Rattle.dates.specs.declared.ProcessDay.{ProcessDay}
 use Rattle.dates.specs.declared.Window.{Window}
-use Rattle.dates.specs.declared.Opening.{Opening}
-use Rattle.dates.specs.declared.Opening.TheVariants.{Open, NoDay}
 use Rattle.figures.specs.Groups.{gives}
 use Rattle.layout.specs.Rows.{first_fault}
-use Rattle.layout.specs.declared.Finding.{Finding}
-use Rattle.layout.specs.declared.Finding.TheVariants.{Sound, Fault}
-use Rattle.rules.specs.Refusals.{refused}
+use Rattle.layout.specs.Findings.{Finding, fault}
+use Rattle.layout.specs.declared.Fault.{Fault}
+use Rattle.rules.specs.Refusals.{Verdict, refused}
 use Rattle.rules.specs.Order.{may_end}
 use Rattle.rules.specs.Layouts.{table_for, rows}
 use Rattle.rules.specs.Growth.{keys, after, after_for, start}
@@ -20,15 +18,16 @@ use Rattle.rules.specs.declared.Mode.{Mode}
 use Rattle.rules.specs.declared.Mode.TheVariants.{File, Draft}
 use Rattle.rules.specs.declared.Assignment.{Assignment}
 use Rattle.rules.specs.declared.State.{State}
-use Rattle.rules.specs.declared.Step.{Step}
-use Rattle.rules.specs.declared.Step.TheVariants.{Next, Stop}
-use Rattle.rules.specs.declared.Verdict.{Verdict}
-use Rattle.rules.specs.declared.Verdict.TheVariants.{Accepted}
+use Rattle.layout.specs.declared.Reason.TheVariants.{NoProcessDay, BrokenLength, TooManyRecords, EndsEarly, NotAddedUp}
+
+-- the state after a record, or its fault
+abbrev pub Step : Type 0
+Step = Result State Fault
 
 -- one record's step: on to the state after it, or stop at its first fault
 abbrev pub stepped : Finding → State → Step
-stepped Sound s = Next s
-stepped (Fault n k) s = Stop n k
+stepped (Ok u) s = Ok s
+stepped (Err e) s = Err e
 
 -- for a record of a known type that may stand here
 unfoldable pub kind_step : Kind → Window → State → List ℕ → List ℕ → Step
@@ -44,12 +43,12 @@ ended Draft a = gives a.group a.due
 
 unfoldable pub at_end : Mode → ℕ → State → Verdict
 at_end m i st =
-    if may_end m st.assignment then (if ended m st.assignment then Accepted st.file else refused 14 0 (i + 1) 0)
-    else refused 6 0 (i + 1) 0
+    if may_end m st.assignment then (if ended m st.assignment then Ok st.file else refused NotAddedUp 0 (i + 1) 0)
+    else refused EndsEarly 0 (i + 1) 0
 
 abbrev pub on_step : Step → ℕ → Verdict → Verdict
-on_step (Next s) i v = v
-on_step (Stop n k) i v = refused n 0 (i + 1) k
+on_step (Ok s) i v = v
+on_step (Err e) i v = refused e.reason 0 (i + 1) e.field
 
 -- the records in turn, after i records that left this state and these keys
 unfoldable pub run : Mode → Window → ℕ → State → List ℕ → List (List ℕ) → Verdict
@@ -74,13 +73,13 @@ bad_length b = eqb (length b) 0 || not (eqb (length b % record_bytes) 0)
 -- 2, then 3, then the records
 unfoldable pub judge : Window → List ℕ → Verdict
 judge w b =
-    if bad_length b then refused 2 0 0 0
-    else (if leb (length b / record_bytes) most_records then run File w 0 start [] (records_of b) else refused 3 0 0 0)
+    if bad_length b then refused BrokenLength 0 0 0
+    else (if leb (length b / record_bytes) most_records then run File w 0 start [] (records_of b) else refused TooManyRecords 0 0 0)
 
 -- 1 first of all
-abbrev pub on_window : Opening → (Window → Verdict) → Verdict
-on_window (Open w) f = f w
-on_window NoDay f = refused 1 0 0 0
+abbrev pub on_window : Option Window → (Window → Verdict) → Verdict
+on_window (Some w) f = f w
+on_window None f = refused NoProcessDay 0 0 0
 
 -- what checking a file answers
 unfoldable pub check_of : ProcessDay → List ℕ → Verdict

@@ -2,21 +2,22 @@
 
 #![tactic(auto)]
 
-ghost use Rattle.std.specs.Prelude.{◌≡◌, ◌*◌, ◌+◌, ◌≤◌, length};
+ghost use Rattle.std.specs.Prelude.{◌≡◌, ◌*◌, ◌+◌, ◌/◌, ◌≤◌, length};
 ghost use Rattle.limits.specs.Limits.{record_bytes};
 ghost use Rattle.rules.specs.Messages.{no_places};
 ghost use Rattle.rules.specs.Refusals.{refusal};
-ghost use Rattle.rules.specs.Run.{record_at};
+ghost use Rattle.rules.specs.Run.{records_of, record_at};
 
 use figures::amounts::Amount;
 use figures::counts::TransactionNumber;
 use figures::groups::Group;
 use figures::totals::{AssignmentTotals, Totals};
-use limits::RECORD_BYTES;
+use layout::{Fault, Reason};
+use limits::{RECORD_BYTES, Record};
 use services::Service;
 
 // Record types. Other is none of the ten; it also stands for no record yet.
-#[derive(Clone, Copy)]
+#[derive(Clone, Copy, Debug, PartialEq, Eq)]
 pub enum Kind {
     R10,
     R20,
@@ -32,14 +33,14 @@ pub enum Kind {
 }
 
 // A file has its end records, a draft has none.
-#[derive(Clone, Copy)]
+#[derive(Clone, Copy, Debug, PartialEq, Eq)]
 pub enum Mode {
     File,
     Draft,
 }
 
 // What the records 49 of a transaction have taken up of its message.
-#[derive(Clone, Copy)]
+#[derive(Clone, Copy, Debug, PartialEq, Eq)]
 pub struct Places {
     // the places taken: bit line times two plus column
     pub mask: u64,
@@ -60,7 +61,7 @@ impl Places {
 }
 
 // The assignment at hand, with its last record and its last transaction.
-#[derive(Clone, Copy)]
+#[derive(Clone, Copy, Debug, PartialEq, Eq)]
 pub struct Assignment {
     pub last: Kind,
     pub service: Service,
@@ -74,22 +75,19 @@ pub struct Assignment {
     pub places: Places,
 }
 
-#[derive(Clone, Copy)]
+#[derive(Clone, Copy, Debug, PartialEq, Eq)]
 pub struct State {
     pub file: Totals,
     pub assignment: Assignment,
 }
 
-#[derive(Clone, Copy)]
-pub enum Step {
-    Next(State),
-    Stop(u8, u8),
-}
+// One record's step: on to the state after it, or its fault.
+pub type Step = Result<State, Fault>;
 
-// A refusal: document 01's number, which of two files (0 outside joining), the record from 1, the field.
-#[derive(Clone, Copy)]
+// A refusal: its reason, which of two files (0 outside joining), the record from 1, the field.
+#[derive(Clone, Copy, Debug, PartialEq, Eq)]
 pub struct Refusal {
-    pub number: u8,
+    pub reason: Reason,
     pub operand: u8,
     pub record: u64,
     pub field: u8,
@@ -97,18 +95,18 @@ pub struct Refusal {
 
 impl Refusal {
     // Of the whole input: no record, no field.
-    pub fn whole(number: u8) -> Refusal
-        ensures { result ≡ refusal number 0 0 0 }
+    pub fn whole(reason: Reason) -> Refusal
+        ensures { result ≡ refusal reason 0 0 0 }
     {
-        Refusal::at(number, 0, 0)
+        Refusal::at(reason, 0, 0)
     }
 
     // Of a record, counted from 1, and a field.
-    pub fn at(number: u8, record: u64, field: u8) -> Refusal
-        ensures { result ≡ refusal number 0 «record» field }
+    pub fn at(reason: Reason, record: u64, field: u8) -> Refusal
+        ensures { result ≡ refusal reason 0 «record» field }
     {
         Refusal {
-            number,
+            reason,
             operand: 0,
             record,
             field,
@@ -117,29 +115,28 @@ impl Refusal {
 
     // The same of the first or the second of two files.
     pub fn of(self, operand: u8) -> Refusal
-        ensures { result ≡ refusal self.number operand self.«record» self.field }
+        ensures { result ≡ refusal self.reason operand self.«record» self.field }
     {
-        Refusal {
-            number: self.number,
-            operand,
-            record: self.record,
-            field: self.field,
-        }
+        Refusal { operand, ..self }
     }
 }
 
-#[derive(Clone, Copy)]
-pub enum Verdict {
-    Accepted(Totals),
-    Refused(Refusal),
+// Accepted with a file's figures, or refused.
+pub type Verdict = Result<Totals, Refusal>;
+
+// All records in turn, each its own 81 bytes of the file.
+pub fn records_of(bytes: &[u8]) -> &[Record]
+    ensures are { result.now ≡ records_of bytes.now }
+    ensures many { length result.now ≡ length bytes.now / record_bytes }
+{
+    bytes.as_chunks::<RECORD_BYTES>().0
 }
 
 // The record after the first k: its own 81 bytes of the file.
-pub fn record_at(bytes: &[u8], k: usize) -> &[u8]
+pub fn record_at(bytes: &[u8], k: usize) -> &Record
     requires { record_bytes * k + record_bytes ≤ length bytes.now }
-    ensures { (result.now ≡ record_at k bytes.now) × (length result.now ≡ record_bytes) }
+    ensures { result.now ≡ record_at k bytes.now }
 {
     let at = RECORD_BYTES * k;
-    let end = at + RECORD_BYTES;
-    &bytes[at..end]
+    bytes[at..].first_chunk().unwrap()
 }

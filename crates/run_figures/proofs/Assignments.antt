@@ -7,13 +7,11 @@ use mathlib.Core.Bool.{Bool, true, false, ◌||◌}
 use native.Mathlib.Omega.{arith}
 use lib.Dec.{eqb, ltb}
 use lib.ListN.{length}
-use Rattle.std.specs.Prelude.{if◌then◌else◌}
+use Rattle.std.specs.Prelude.{if◌then◌else◌, Option, Some, None}
 use Rattle.fields.specs.Bytes.{every, part}
 use Rattle.fields.specs.Numbers.{value}
 use Rattle.dates.specs.Dates.{date, read_day, earlier, later}
 use Rattle.dates.specs.declared.Date.{Date}
-use Rattle.dates.specs.declared.Day.{Day}
-use Rattle.dates.specs.declared.Day.TheVariants.{On, NoDate}
 use Rattle.dates.specs.declared.Window.{Window}
 use Rattle.dates.proofs.Laws.{day_range}
 use Rattle.figures.specs.Figures.{limit_wide, Fits}
@@ -66,9 +64,9 @@ date_fits : (r : List ℕ) → Fits 32 (date_in r).0
 unfolding read_day
 date_fits r = go (read_day (value (part 16 21 r))) refl
   where
-    go : (d : Day) → read_day (value (part 16 21 r)) ≡ d → Fits 32 (the_date d).0
-    go (On d) e = let x = (day_range _ _ _ d e).1 in omega (arith, x)
-    go NoDate e = omega arith
+    go : (d : Option Date) → read_day (value (part 16 21 r)) ≡ d → Fits 32 (the_date d).0
+    go (Some d) e = let x = (day_range _ _ _ d e).1 in omega (arith, x)
+    go None e = omega arith
 
 -- an assignment's dates fit, whatever record comes
 pub record Dated (t : AssignmentTotals) : Type 0 where

@@ -1,13 +1,14 @@
 -- Numbers put into slots: what then stands before them, and with them. Five numbers are an assignment's figures.
 -- Assumes nothing.
-use Prim.Native.Nat.{ℕ, suc, ◌+◌, ◌*◌, ◌≤◌, ◌<◌}
-use mathlib.Core.Path.{◌≡◌, refl, sym, ap, ◌∙◌}
+use Prim.Native.Nat.{ℕ, ◌+◌, ◌-◌, ◌*◌, ◌≤◌, ◌<◌}
+use mathlib.Core.Path.{◌≡◌, refl, sym, ap, ap₂, ◌∙◌}
 use mathlib.Core.List.{List, [], ◌∷◌, ◌++◌, append_assoc, append-nil}
 use native.Mathlib.Nat.{add-zero}
 use native.Mathlib.Omega.{arith}
+use borrow.Rule.Slice.PartMut.{put_mid}
 use borrow.Author.Tests.{le-leb, lt-leb}
 use lib.ListN.{length, take, drop, set, length-append, take-append-drop}
-use lib.Seq.{length-take-le, take_at, sets-eq}
+use lib.Seq.{length-take-le, take_at, sets-eq, drop-drop}
 use Rattle.figures.specs.declared.totals.AssignmentTotals.{AssignmentTotals}
 use Rattle.run_figures.specs.Slots.{slots, all_slots, put_from, with_figures}
 
@@ -34,17 +35,14 @@ module _ (n : ℕ) (t : AssignmentTotals) (l : List ℕ) (h : 5 * n + 5 ≤ leng
   unfolding with_figures
   roomy_put = rw (le-leb (5 * n + 5) (length l) h)
 
-  pub put_slots :
-      set (set (set (set (set l (5 * n) t.totals.transactions.0) (5 * n + 1) t.totals.records.0) (5 * n + 2) t.totals.sum.0) (5 * n + 3) t.totals.first.0) (5 * n + 4) t.last.0
-      ≡ with_figures n t l
+  pub put_slots : (x : List ℕ) → x ≡ slots t → put_mid (5 * n) (5 * n + 5 - 5 * n) l x ≡ with_figures n t l
   unfolding slots put_from
-  put_slots =
-      let a : 5 * n + 1 ≡ suc (5 * n) = omega arith in
-      let b : 5 * n + 2 ≡ suc (suc (5 * n)) = omega arith in
-      let c : 5 * n + 3 ≡ suc (suc (suc (5 * n))) = omega arith in
-      let d : 5 * n + 4 ≡ suc (suc (suc (suc (5 * n)))) = omega arith in
-      (λ i. set (set (set (set (set l (5 * n) t.totals.transactions.0) (a i) t.totals.records.0) (b i) t.totals.sum.0) (c i) t.totals.first.0) (d i) t.last.0)
-      ∙ sets-eq (slots t) l (5 * n) h ∙ sym roomy_put
+  put_slots x e =
+      let k : 5 * n + 5 - 5 * n ≡ 5 = omega arith in
+      ap₂ (λ (y : List ℕ) (m : ℕ). put_mid (5 * n) m l y) e k
+      ∙ ap (λ (y : List ℕ). take (5 * n) l ++ (slots t ++ y)) (drop-drop 5 (5 * n) l)
+      ∙ sym (append_assoc (take (5 * n) l) (slots t) (drop (5 * n + 5) l))
+      ∙ sym roomy_put
 
   pub figures_front : take (5 * n + 5) (with_figures n t l) ≡ take (5 * n) l ++ slots t
   unfolding slots

@@ -23,20 +23,17 @@ pub fn keep_figures(t: AssignmentTotals, figures: &mut [u64], before: usize)
     if figures.len() < at + 5 {
         return;
     }
-    let totals = t.totals;
-    let transactions = totals.transactions;
-    let records = totals.records;
-    let sum = totals.sum;
-    let first = totals.first;
-    let last = t.last;
-    figures[at] = transactions.0 as u64;
-    figures[at + 1] = records.0 as u64;
-    figures[at + 2] = sum.0;
-    figures[at + 3] = first.0 as u64;
-    figures[at + 4] = last.0 as u64;
+    figures[at..at + 5].copy_from_slice(&[
+        t.totals.transactions.0 as u64,
+        t.totals.records.0 as u64,
+        t.totals.sum.0,
+        t.totals.first.0 as u64,
+        t.last.0 as u64,
+    ]);
 }
 
 // The figures of the j-th assignment.
+#[tactic(auto, unfolding(crate::specs::Slots::entry))]
 pub fn figures_at(figures: &[u64], j: usize) -> AssignmentTotals
     requires { Legible figures.now j }
     ensures { result ≡ entry figures.now j }
@@ -57,11 +54,8 @@ pub fn sum_of(figures: &[u64], from: usize, to: usize) -> Totals
     ensures { result ≡ summed figures.now from (to - from) }
 {
     let mut sum = Totals::none();
-    let mut j = from;
-    while j < to {
-        let own = figures_at(figures, j);
-        sum = sum.plus(own.totals);
-        j += 1;
+    for j in from..to {
+        sum = sum.plus(figures_at(figures, j).totals);
     }
     sum
 }

@@ -37,14 +37,9 @@ pub fn open_for(service: Service) -> Assignment
     ensures { result ≡ opened service }
 {
     Assignment {
-        last: Kind::R20,
         service,
         totals: AssignmentTotals::none().with_assignment(),
-        number: TransactionNumber(0),
-        code: 0,
-        due: Amount(0),
-        group: Group::empty(),
-        places: Places::none(),
+        ..before_assignments(Kind::R20)
     }
 }
 
@@ -53,19 +48,12 @@ pub fn pass(a: Assignment, kind: Kind, group: Group, places: Places) -> Assignme
     requires { Bounded most_records a.totals.totals }
     ensures { result ≡ passed kind group places a }
 {
-    let service = a.service;
-    let totals = a.totals;
-    let number = a.number;
-    let due = a.due;
     Assignment {
         last: kind,
-        service,
-        totals: totals.with_record(),
-        number,
-        code: a.code,
-        due,
+        totals: a.totals.with_record(),
         group,
         places,
+        ..a
     }
 }
 
@@ -90,17 +78,15 @@ pub fn pay(
     requires { Bounded most_records a.totals.totals × WithinWide amount }
     ensures { result ≡ paid_as code number amount date a }
 {
-    let service = a.service;
-    let totals = a.totals;
     Assignment {
         last: Kind::R30,
-        service,
-        totals: totals.with_transaction(amount, date),
+        totals: a.totals.with_transaction(amount, date),
         number,
         code,
         due: due_for(code, amount),
         group: Group::empty(),
         places: Places::none(),
+        ..a
     }
 }
 

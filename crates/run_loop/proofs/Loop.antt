@@ -1,36 +1,33 @@
 -- The loop over the records: what holds behind k of them, at the start, from one to the next, and at the end.
 -- Assumes nothing.
-use Prim.Native.Nat.{ℕ, ◌+◌, ◌*◌, ◌≤◌, ◌<◌}
+use Prim.Native.Nat.{ℕ, suc, ◌+◌, ◌*◌, ◌≤◌, ◌<◌}
 use mathlib.Core.Path.{◌≡◌, refl, sym, ap, ap₂, subst, ◌∙◌}
 use mathlib.Core.Logic.{◌⊎◌, inl, inr, ⊎_elim}
 use mathlib.Core.List.{List, [], ◌∷◌, ◌++◌, append_assoc, append-nil}
 use mathlib.Core.Bool.{Bool, true, false}
 use native.Mathlib.Nat.{add-zero}
 use native.Mathlib.Omega.{arith}
-use lib.ListN.{length, take, drop}
+use lib.ListN.{length, get_or, take, drop}
+use lib.Seq.{drop-cons}
+use Rattle.std.proofs.lemmas.List.{drop_all}
 use Rattle.dates.specs.declared.Window.{Window}
 use Rattle.run_growth.specs.Bounds.{Small}
 use Rattle.layout.specs.Rows.{first_fault}
-use Rattle.layout.specs.declared.Finding.TheVariants.{Sound}
 use Rattle.rules.specs.Codes.{kind_of}
 use Rattle.rules.specs.Layouts.{rows}
 use Rattle.rules.specs.Order.{may_end}
 use Rattle.rules.specs.Growth.{gain_for, gain, keys_for, all_keys, after, start}
 use Rattle.rules.specs.Refusals.{refused}
-use Rattle.rules.specs.Run.{step_of, ended, at_end, run, chunks, record_at}
-use Rattle.limits.specs.Limits.{record_bytes, most_records, most_assignments}
+use Rattle.rules.specs.Run.{step_of, ended, at_end, run}
+use Rattle.limits.specs.Limits.{most_records, most_assignments}
 use Rattle.rules.specs.declared.Kind.{Kind}
-use Rattle.rules.specs.declared.Kind.TheVariants.{R10, R20, R30, R31, R40, R41, R49, R50, R88, R89, Other}
+use Rattle.rules.specs.declared.Kind.TheVariants.{R20}
 use Rattle.rules.specs.declared.Mode.{Mode}
 use Rattle.rules.specs.declared.State.{State}
-use Rattle.rules.specs.declared.Step.{Step}
-use Rattle.rules.specs.declared.Step.TheVariants.{Next, Stop}
-use Rattle.rules.specs.declared.Verdict.{Verdict}
-use Rattle.rules.specs.declared.Verdict.TheVariants.{Accepted}
-use Rattle.std.specs.Prelude.{if◌then◌else◌}
+use Rattle.std.specs.Prelude.{if◌then◌else◌, Ok, Err}
 use Rattle.figures.specs.declared.totals.Totals.{Totals}
 use Rattle.figures.specs.declared.totals.AssignmentTotals.{AssignmentTotals}
-use Rattle.run_figures.specs.Slots.{all_slots, put_from, with_figures}
+use Rattle.run_figures.specs.Slots.{all_slots, with_figures}
 use Rattle.run_figures.specs.Blocks.{done_for, done, blocks}
 use Rattle.run_figures.proofs.Slots.{put_front, figures_front, one_slots, none_slots}
 use Rattle.run_figures.proofs.Blocks.{figures_next, figures_last}
@@ -38,21 +35,17 @@ use Rattle.run_step.specs.Took.{keys_of, Ready, ended_by, on_next, Took}
 use Rattle.run_step.proofs.Steps.{went_on, run_next, run_stop, table_holds, table_of, slot_held}
 use Rattle.run_step.proofs.Bounds.{small_next}
 use Rattle.run_loop.specs.Left.{Roomy}
-use Rattle.rules.proofs.Records.{rest, rest_next, rest_end, rest_start, part_long}
+use Rattle.layout.specs.Findings.{sound}
+use Rattle.layout.specs.declared.Fault.{Fault}
+use Rattle.layout.specs.declared.Reason.{Reason}
+use Rattle.rules.specs.Run.{Step}
+use Rattle.rules.specs.Refusals.{Verdict}
+use Rattle.layout.specs.declared.Reason.TheVariants.{EndsEarly, NotAddedUp}
 
 -- only a record 20 adds an assignment and a key
 one_or_none : (k : Kind) (r : List ℕ) → ((gain_for k r).assignments.0 ≡ 0) ⊎ ((k ≡ R20) × ((gain_for k r).assignments.0 ≡ 1))
-one_or_none R10 r = inl refl
 one_or_none R20 r = inr (refl, refl)
-one_or_none R30 r = inl refl
-one_or_none R31 r = inl refl
-one_or_none R40 r = inl refl
-one_or_none R41 r = inl refl
-one_or_none R49 r = inl refl
-one_or_none R50 r = inl refl
-one_or_none R88 r = inl refl
-one_or_none R89 r = inl refl
-one_or_none Other r = inl refl
+one_or_none k r = inl refl
 
 -- the keys of a record and those behind it
 abbrev keys_of_record : List ℕ → List ℕ
@@ -68,17 +61,8 @@ no_keys = refl
 
 -- as many keys as assignments
 key_count : (k : Kind) (r : List ℕ) → length (keys_for k r) ≡ (gain_for k r).assignments.0
-key_count R10 r = refl
 key_count R20 r = refl
-key_count R30 r = refl
-key_count R31 r = refl
-key_count R40 r = refl
-key_count R41 r = refl
-key_count R49 r = refl
-key_count R50 r = refl
-key_count R88 r = refl
-key_count R89 r = refl
-key_count Other r = refl
+key_count k r = refl
 
 -- the figures behind a record: those before, with those of what it ends
 module _ (r : List ℕ) (n : ℕ) (t : AssignmentTotals) (l : List ℕ) (h : 5 * n + 5 ≤ length l) where
@@ -87,44 +71,34 @@ module _ (r : List ℕ) (n : ℕ) (t : AssignmentTotals) (l : List ℕ) (h : 5 *
 
   ended_front : (k : Kind) → take (5 * (n + (gain_for k r).assignments.0)) (ended_by k n t l) ≡ take (5 * n) l ++ all_slots (done_for k t)
   unfolding ended_by
-  ended_front R10 = nothing_ended
   ended_front R20 =
       let i : 5 * (n + 1) ≡ 5 * n + 5 = omega arith in
       ap (λ (j : ℕ). take j (with_figures n t l)) i ∙ figures_front n t l h ∙ ap (λ (x : List ℕ). take (5 * n) l ++ x) (sym (one_slots t))
-  ended_front R30 = nothing_ended
-  ended_front R31 = nothing_ended
-  ended_front R40 = nothing_ended
-  ended_front R41 = nothing_ended
-  ended_front R49 = nothing_ended
-  ended_front R50 = nothing_ended
-  ended_front R88 = nothing_ended
-  ended_front R89 = nothing_ended
-  ended_front Other = nothing_ended
+  ended_front k = nothing_ended
 
 -- what is accepted is the file's totals; a refusal is not accepted
-pub accepted : (m : Mode) (i : ℕ) (st : State) (t : Totals) → at_end m i st ≡ Accepted t → st.file ≡ t
+pub accepted : (m : Mode) (i : ℕ) (st : State) (t : Totals) → at_end m i st ≡ Ok t → st.file ≡ t
 unfolding at_end
 accepted m i st t e = go (may_end m st.assignment) (ended m st.assignment) e
   where
-    go : (p q : Bool) → (if p then (if q then Accepted st.file else refused 14 0 (i + 1) 0) else refused 6 0 (i + 1) 0) ≡ Accepted t → st.file ≡ t
+    go : (p q : Bool) → (if p then (if q then Ok st.file else refused NotAddedUp 0 (i + 1) 0) else refused EndsEarly 0 (i + 1) 0) ≡ Ok t → st.file ≡ t
     go true true h = cc
     go true false h = cc
     go false q h = cc
 
-pub not_accepted : (n i k : ℕ) (x : Verdict) (t : Totals) → x ≡ refused n 0 i k → x ≡ Accepted t → ⊥
+pub not_accepted : (n : Reason) (i k : ℕ) (x : Verdict) (t : Totals) → x ≡ refused n 0 i k → x ≡ Ok t → ⊥
 not_accepted n i k x t e h = let z : ◌≡◌ {A = ℕ} 0 1 = cc in omega arith
 
--- behind k of n records of b
-pub record At (m : Mode) (w : Window) (b : List ℕ) (n : ℕ) (st : State) (keys figures : List ℕ) (k : ℕ) : Type 0 where
-  pub within : k ≤ n
-  pub few : n ≤ most_records
-  pub size : record_bytes * n ≤ length b
+-- behind the first k of these records
+pub record At (m : Mode) (w : Window) (rs : List (List ℕ)) (st : State) (keys figures : List ℕ) (k : ℕ) : Type 0 where
+  pub within : k ≤ length rs
+  pub few : length rs ≤ most_records
   pub slots : length keys ≡ most_assignments
   pub most : st.file.assignments.0 ≤ most_assignments
   pub small : Small k st
-  pub same : run m w 0 start [] (chunks n b) ≡ run m w k st (keys_of st keys) (rest b n k)
-  pub found : all_keys (chunks n b) ≡ keys_of st keys ++ all_keys (rest b n k)
-  pub figured : Roomy figures → all_slots (blocks start.assignment (chunks n b)) ≡ take (5 * st.file.assignments.0) figures ++ all_slots (blocks st.assignment (rest b n k))
+  pub same : run m w 0 start [] rs ≡ run m w k st (keys_of st keys) (drop k rs)
+  pub found : all_keys rs ≡ keys_of st keys ++ all_keys (drop k rs)
+  pub figured : Roomy figures → all_slots (blocks start.assignment rs) ≡ take (5 * st.file.assignments.0) figures ++ all_slots (blocks st.assignment (drop k rs))
 
 pub small_start : Small 0 start
 small_start =
@@ -146,47 +120,29 @@ smaller k n st h s =
       credited = s.credited;
     }
 
-module _ (m : Mode) (w : Window) (b : List ℕ) (n : ℕ) where
-  pub at_start : (st : State) (keys figures : List ℕ) → n ≤ most_records → record_bytes * n ≤ length b → st ≡ start → length keys ≡ most_assignments → At m w b n st keys figures 0
-  at_start st keys figures f l e five =
-      let none : st.file.assignments.0 ≡ 0 = ap (λ (x : State). x.file.assignments.0) e in
-      record {
-        within = omega arith;
-        few = f;
-        size = l;
-        slots = five;
-        most = omega (arith, none);
-        small = subst (Small 0) (sym e) small_start;
-        same = ap (run m w 0 start []) (sym (rest_start b n)) ∙ ap (λ (x : State). run m w 0 x (keys_of x keys) (rest b n 0)) (sym e);
-        found = ap all_keys (sym (rest_start b n)) ∙ ap (λ (x : State). keys_of x keys ++ all_keys (rest b n 0)) (sym e);
-        figured = λ _.
-            ap (λ (rs : List (List ℕ)). all_slots (blocks start.assignment rs)) (sym (rest_start b n))
-            ∙ ap (λ (x : State). take (5 * x.file.assignments.0) figures ++ all_slots (blocks x.assignment (rest b n 0))) (sym e);
-      }
-
+module _ (m : Mode) (w : Window) (rs : List (List ℕ)) where
   -- one record more
-  module _ (st : State) (keys figures : List ℕ) (k : ℕ) (a : At m w b n st keys figures k) (h : k < n) (r : List ℕ) (e : r ≡ record_at k b) where
-    here : rest b n k ≡ r ∷ rest b n (k + 1)
-    here = rest_next b n k h ∙ ap (λ (x : List ℕ). x ∷ rest b n (k + 1)) (sym e)
+  module _ (st : State) (keys figures : List ℕ) (k : ℕ) (a : At m w rs st keys figures k) (h : k < length rs) (r : List ℕ) (e : r ≡ get_or rs k []) where
+    here : drop k rs ≡ r ∷ drop (k + 1) rs
+    here = let n : suc k ≡ k + 1 = omega arith in drop-cons rs k [] h ∙ ap₂ (λ (x : List ℕ) (i : ℕ). x ∷ drop i rs) (sym e) n
 
-    pub ready : Ready st r keys
+    pub ready : Ready st keys
     ready =
         record {
-          long = ap length e ∙ part_long b k (omega (arith, a.size));
           small = smaller k most_records st (omega (arith, a.few)) a.small;
           few = a.most;
           slots = a.slots;
         }
 
-    pub stopped : (x y : ℕ) → Stop x y ≡ step_of m w st (keys_of st keys) r → run m w 0 start [] (chunks n b) ≡ refused x 0 (k + 1) y
-    stopped x y q = a.same ∙ ap (run m w k st (keys_of st keys)) here ∙ run_stop m w st (keys_of st keys) r k (rest b n (k + 1)) x y (sym q)
+    pub stopped : (x : Fault) → Err x ≡ step_of m w st (keys_of st keys) r → run m w 0 start [] rs ≡ refused x.reason 0 (k + 1) x.field
+    stopped x q = a.same ∙ ap (run m w k st (keys_of st keys)) here ∙ run_stop m w st (keys_of st keys) r k (drop (k + 1) rs) x (sym q)
 
-    module _ (x : Step) (s : State) (keys' figures' : List ℕ) (took : Took (step_of m w st (keys_of st keys) r) (kind_of r) st r keys figures x keys' figures') (went : x ≡ Next s) where
-      t : Took (step_of m w st (keys_of st keys) r) (kind_of r) st r keys figures (Next s) keys' figures'
+    module _ (x : Step) (s : State) (keys' figures' : List ℕ) (took : Took (step_of m w st (keys_of st keys) r) (kind_of r) st r keys figures x keys' figures') (went : x ≡ Ok s) where
+      t : Took (step_of m w st (keys_of st keys) r) (kind_of r) st r keys figures (Ok s) keys' figures'
       t = subst (λ (y : Step). Took (step_of m w st (keys_of st keys) r) (kind_of r) st r keys figures y keys' figures') went took
 
-      sound : first_fault st.file (keys_of st keys) r (rows m w st.assignment r) ≡ Sound
-      sound = (went_on m w st (keys_of st keys) r s (sym t.step)).0
+      all_sound : first_fault st.file (keys_of st keys) r (rows m w st.assignment r) ≡ sound
+      all_sound = (went_on m w st (keys_of st keys) r s (sym t.step)).0
 
       is : after st r ≡ s
       is = (went_on m w st (keys_of st keys) r s (sym t.step)).1
@@ -197,7 +153,7 @@ module _ (m : Mode) (w : Window) (b : List ℕ) (n : ℕ) where
       most_next : s.file.assignments.0 ≤ most_assignments
       most_next =
           ⊎_elim (λ (z : (gain r).assignments.0 ≡ 0). omega (arith, a.most, counted))
-          (λ (z : (kind_of r ≡ R20) × ((gain r).assignments.0 ≡ 1)). let room = slot_held st.file (keys_of st keys) r st.assignment (table_of m w st (keys_of st keys) r R20 z.0 sound) in omega (arith, z.1, room, counted))
+          (λ (z : (kind_of r ≡ R20) × ((gain r).assignments.0 ≡ 1)). let room = slot_held st.file (keys_of st keys) r st.assignment (table_of m w st (keys_of st keys) r R20 z.0 all_sound) in omega (arith, z.1, room, counted))
           (one_or_none (kind_of r) r)
 
       -- the keys so far with the record's, and the figures so far with those of what it ends
@@ -213,46 +169,47 @@ module _ (m : Mode) (w : Window) (b : List ℕ) (n : ℕ) where
           ap₂ (λ (i : ℕ) (x : List ℕ). take (5 * i) x) (sym counted) t.figured
           ∙ ended_front r st.file.assignments.0 st.assignment.totals figures (omega (arith, a.most, l)) (kind_of r)
 
-      pub at_next : length keys' ≡ length keys → length figures' ≡ length figures → At m w b n s keys' figures' (k + 1)
+      pub at_next : length keys' ≡ length keys → length figures' ≡ length figures → At m w rs s keys' figures' (k + 1)
       at_next five size =
           record {
             within = omega arith;
             few = a.few;
-            size = a.size;
             slots = five ∙ a.slots;
             most = most_next;
-            small = subst (Small (k + 1)) is (small_next k (kind_of r) w st (keys_of st keys) r a.small (table_holds m w st (keys_of st keys) r sound));
+            small = subst (Small (k + 1)) is (small_next k (kind_of r) w st (keys_of st keys) r a.small (table_holds m w st (keys_of st keys) r all_sound));
             same =
-                a.same ∙ ap (run m w k st (keys_of st keys)) here ∙ run_next m w st (keys_of st keys) r k (rest b n (k + 1)) s (sym t.step)
-                ∙ ap (λ (x : List ℕ). run m w (k + 1) s x (rest b n (k + 1))) (sym keys_so_far);
+                a.same ∙ ap (run m w k st (keys_of st keys)) here ∙ run_next m w st (keys_of st keys) r k (drop (k + 1) rs) s (sym t.step)
+                ∙ ap (λ (x : List ℕ). run m w (k + 1) s x (drop (k + 1) rs)) (sym keys_so_far);
             found =
-                a.found ∙ ap (λ (x : List (List ℕ)). keys_of st keys ++ all_keys x) here ∙ ap (λ (x : List ℕ). keys_of st keys ++ x) (keys_next r (rest b n (k + 1)))
-                ∙ sym (append_assoc (keys_of st keys) (keys_of_record r) (all_keys (rest b n (k + 1)))) ∙ ap (λ (x : List ℕ). x ++ all_keys (rest b n (k + 1))) (sym keys_so_far);
+                a.found ∙ ap (λ (x : List (List ℕ)). keys_of st keys ++ all_keys x) here ∙ ap (λ (x : List ℕ). keys_of st keys ++ x) (keys_next r (drop (k + 1) rs))
+                ∙ sym (append_assoc (keys_of st keys) (keys_of_record r) (all_keys (drop (k + 1) rs))) ∙ ap (λ (x : List ℕ). x ++ all_keys (drop (k + 1) rs)) (sym keys_so_far);
             figured = λ l.
                 let roomy : Roomy figures = omega (arith, l, size) in
                 a.figured roomy ∙ ap (λ (x : List (List ℕ)). take (5 * st.file.assignments.0) figures ++ all_slots (blocks st.assignment x)) here
-                ∙ figures_next (take (5 * st.file.assignments.0) figures) st.assignment r (rest b n (k + 1))
-                ∙ ap₂ (λ (x : List ℕ) (y : State). x ++ all_slots (blocks y.assignment (rest b n (k + 1)))) (sym (figures_so_far roomy)) is;
+                ∙ figures_next (take (5 * st.file.assignments.0) figures) st.assignment r (drop (k + 1) rs)
+                ∙ ap₂ (λ (x : List ℕ) (y : State). x ++ all_slots (blocks y.assignment (drop (k + 1) rs))) (sym (figures_so_far roomy)) is;
           }
 
   -- nothing is left: the keys are those of the whole
-  module _ (st : State) (keys figures : List ℕ) (k : ℕ) (a : At m w b n st keys figures k) (h : n ≤ k) where
-    none_left : rest b n k ≡ []
-    none_left = rest_end b n k (omega (arith, a.within))
+  module _ (st : State) (keys figures : List ℕ) (k : ℕ) (a : At m w rs st keys figures k) (h : length rs ≤ k) where
+    none_left : drop k rs ≡ []
+    none_left = drop_all k rs h
 
-    pub at_last : run m w 0 start [] (chunks n b) ≡ at_end m k st
+    pub at_last : run m w 0 start [] rs ≡ at_end m (length rs) st
     unfolding run
-    at_last = a.same ∙ ap (run m w k st (keys_of st keys)) none_left
+    at_last =
+        let e : k ≡ length rs = omega (arith, a.within) in
+        a.same ∙ ap (run m w k st (keys_of st keys)) none_left ∙ ap (λ (i : ℕ). at_end m i st) e
 
     module _ (t : Totals) (e : st.file ≡ t) where
-      pub keys_last : take t.assignments.0 keys ≡ all_keys (chunks n b)
+      pub keys_last : take t.assignments.0 keys ≡ all_keys rs
       keys_last =
           ap (λ (x : Totals). take x.assignments.0 keys) (sym e)
           ∙ sym (a.found ∙ ap (λ (x : List (List ℕ)). keys_of st keys ++ all_keys x) none_left ∙ ap (λ (x : List ℕ). keys_of st keys ++ x) no_keys ∙ append-nil (keys_of st keys))
 
       -- and with those of the assignment at hand, so are the figures
       pub figures_all : (left : List ℕ) → left ≡ with_figures st.file.assignments.0 st.assignment.totals figures → length left ≡ length figures
-          → Roomy left → take (5 * (t.assignments.0 + 1)) left ≡ all_slots (blocks start.assignment (chunks n b))
+          → Roomy left → take (5 * (t.assignments.0 + 1)) left ≡ all_slots (blocks start.assignment rs)
       figures_all left f size l =
           let i : 5 * (t.assignments.0 + 1) ≡ 5 * st.file.assignments.0 + 5 = let j = ap (λ (x : Totals). x.assignments.0) e in omega (arith, j) in
           ap₂ take i f ∙ figures_front st.file.assignments.0 st.assignment.totals figures (omega (arith, l, size, a.most))

@@ -10,8 +10,8 @@ ghost use Rattle.run_loop.specs.Left.{Ran};
 
 use dates::Window;
 use figures::totals::Totals;
-use limits::RECORD_BYTES;
-use rules::{Assignment, Kind, Mode, Refusal, State, Step, Verdict};
+use layout::Reason;
+use rules::{Assignment, Kind, Mode, Refusal, State, Verdict};
 
 // The last group gave its amount; a file has told so before its end.
 fn gave(mode: Mode, a: Assignment) -> bool
@@ -19,28 +19,23 @@ fn gave(mode: Mode, a: Assignment) -> bool
 {
     match mode {
         Mode::File => true,
-        Mode::Draft => {
-            let group = a.group;
-            let due = a.due;
-            group.gives(due)
-        }
+        Mode::Draft => a.group.gives(a.due),
     }
 }
 
 // The end after this many records.
+#[tactic(auto, unfolding(rules::specs::Run::at_end))]
 fn finish(mode: Mode, st: State, before: usize) -> Verdict
     requires { before ≤ most_records }
     ensures { result ≡ at_end mode before st }
 {
-    let a = st.assignment;
-    if !run_order::may_end(mode, a) {
-        return Verdict::Refused(Refusal::at(6, before as u64 + 1, 0));
+    if !run_order::may_end(mode, st.assignment) {
+        return Err(Refusal::at(Reason::EndsEarly, before as u64 + 1, 0));
     }
-    if !gave(mode, a) {
-        return Verdict::Refused(Refusal::at(14, before as u64 + 1, 0));
+    if !gave(mode, st.assignment) {
+        return Err(Refusal::at(Reason::NotAddedUp, before as u64 + 1, 0));
     }
-    let file = st.file;
-    Verdict::Accepted(file.copied())
+    Ok(st.file.copied())
 }
 
 fn begin() -> State
@@ -63,25 +58,16 @@ pub fn run_over(
     requires { (length bytes.now / record_bytes ≤ most_records) × (length keys.old ≡ most_assignments) }
     ensures { Ran mode w bytes.now keys.new figures.new result }
 {
-    let count = bytes.len() / RECORD_BYTES;
+    let records = rules::records_of(bytes);
     let mut st = begin();
-    let mut k: usize = 0;
-    while k < count {
-        let r = rules::record_at(bytes, k);
+    for (k, r) in records.iter().enumerate() {
+        // A match and no `map_err`, which would hand the whole state on once more.
         match run_step::take_record(mode, w, st, r, keys, figures) {
-            Step::Stop(number, field) => {
-                return Verdict::Refused(Refusal::at(number, k as u64 + 1, field));
-            }
-            Step::Next(next) => {
-                st = next;
-            }
+            Err(fault) => return Err(Refusal::at(fault.reason, k as u64 + 1, fault.field)),
+            Ok(next) => st = next,
         }
-        k += 1;
     }
-    let file = st.file;
-    let assignments = file.assignments;
-    let a = st.assignment;
-    let totals = a.totals;
-    run_figures::keep_figures(totals, figures, assignments.0 as usize);
-    finish(mode, st, k)
+    let assignments = st.file.assignments.0 as usize;
+    run_figures::keep_figures(st.assignment.totals, figures, assignments);
+    finish(mode, st, records.len())
 }

@@ -4,6 +4,7 @@ use Prim.Native.Nat.{ℕ}
 use mathlib.Core.Path.{◌≡◌, refl, ap, ◌∙◌}
 use mathlib.Core.List.{List, [], ◌∷◌}
 use mathlib.Core.Bool.{Bool, true, false, not, ◌&&◌, ◌||◌, beq}
+use denote.Enum.Bare.{sameb}
 use lib.Dec.{eqb}
 use native.Mathlib.Omega.{arith}
 use borrow.Author.Tests.{eqb-true}
@@ -14,11 +15,19 @@ use Rattle.services.specs.declared.Service.TheVariants.{Autogiro, Remittance}
 use Rattle.rules.specs.Codes.{number_of_kind}
 use Rattle.rules.specs.Order.{next, behind, may_follow, is_end}
 use Rattle.rules.specs.declared.Assignment.{Assignment}
+use Rattle.services.specs.contracts.Service.{the_type as service_type}
+use Rattle.rules.specs.contracts.Kind.{the_type as kind_type}
 use Rattle.rules.specs.declared.Kind.{Kind}
 use Rattle.rules.specs.declared.Kind.TheVariants.{R10, R20, R30, R31, R40, R41, R49, R50, R88, R89, Other}
+use Rattle.rules.specs.contracts.Mode.{the_type as mode_type}
 use Rattle.rules.specs.declared.Mode.{Mode}
-use Rattle.run_order.specs.Whole.{is_remittance, is_draft, whole_behind, messages_behind}
+use Rattle.rules.specs.declared.Mode.TheVariants.{File, Draft}
+use Rattle.run_order.specs.Whole.{is_remittance, whole_behind, messages_behind}
 use Rattle.run_order.proofs.Each.{each_bool, of_bool, each_mode, of_mode, each_service, of_service, each_kind, of_kind, alike}
+
+-- two modes are one, as the code asks it
+abbrev same_mode : Mode → Mode → Bool
+same_mode = sameb mode_type
 
 -- what the code answers, with the transaction type told as three truth values
 abbrev pub choice : Mode → Kind → ℕ → Bool → Bool → Bool → Bool → Bool
@@ -28,8 +37,8 @@ choice m R40 last rem three four sixteen = eqb last 31 && rem && (three || four)
 choice m R41 last rem three four sixteen = eqb last 40
 choice m R49 last rem three four sixteen = messages_behind last || (eqb last 31 && not rem && three)
 choice m R50 last rem three four sixteen = eqb last 50 || (eqb last 31 && rem && sixteen)
-choice m R88 last rem three four sixteen = not (is_draft m) && whole_behind last rem four sixteen
-choice m R20 last rem three four sixteen = eqb last 10 || eqb last 88 || (is_draft m && whole_behind last rem four sixteen)
+choice m R88 last rem three four sixteen = same_mode m File && whole_behind last rem four sixteen
+choice m R20 last rem three four sixteen = eqb last 10 || eqb last 88 || (same_mode m Draft && whole_behind last rem four sixteen)
 choice m R89 last rem three four sixteen = eqb last 88
 choice m R10 last rem three four sixteen = eqb last 0
 choice m Other last rem three four sixteen = false
@@ -85,6 +94,19 @@ types_apart t = go (eqb t 3) (eqb t 4) (eqb t 16) refl refl refl
     go false true false p q r = refl
     go false false z p q r = refl
 
+-- two record types are one if their numbers are
+pub type_is : (l k : Kind) → sameb kind_type l k ≡ eqb (number_of_kind l) (number_of_kind k)
+type_is l k = alike _ _ (of_kind (λ k. beq (sameb kind_type l k) (eqb (number_of_kind l) (number_of_kind k))) (of_kind (λ l. each_kind (λ k. beq (sameb kind_type l k) (eqb (number_of_kind l) (number_of_kind k)))) refl l) k)
+
+-- a service is the one or the other
+pub remittance_is : (s : Service) → sameb service_type s Remittance ≡ is_remittance s
+remittance_is Autogiro = refl
+remittance_is Remittance = refl
+
+pub autogiro_is : (s : Service) → sameb service_type s Autogiro ≡ not (is_remittance s)
+autogiro_is Autogiro = refl
+autogiro_is Remittance = refl
+
 -- one computed test over every case
 same : Mode → Kind → Kind → Service → Bool → Bool → Bool → Bool
 same m k l s x y z =
@@ -119,5 +141,5 @@ choice_is m a k =
     alike _ _ (of_those _ _ (types_apart t) h7) ∙ ap (member (number_of_kind k)) (listed_is m l s t)
 
 -- the record type of a file's end
-pub end_is : (k : Kind) → eqb (number_of_kind k) 89 ≡ is_end k
-end_is k = alike _ _ (of_kind (λ k. beq (eqb (number_of_kind k) 89) (is_end k)) refl k)
+pub end_is : (k : Kind) → sameb kind_type k R89 ≡ is_end k
+end_is k = type_is k R89

@@ -3,16 +3,10 @@
 use Rattle.std.specs.Prelude.{ℕ, Bool, true, false, not, ◌&&◌, ◌||◌, eqb}
 use Rattle.services.specs.declared.Service.{Service}
 use Rattle.services.specs.declared.Service.TheVariants.{Autogiro, Remittance}
-use Rattle.rules.specs.declared.Mode.{Mode}
-use Rattle.rules.specs.declared.Mode.TheVariants.{File, Draft}
 
 abbrev pub is_remittance : Service → Bool
 is_remittance Autogiro = false
 is_remittance Remittance = true
-
-abbrev pub is_draft : Mode → Bool
-is_draft File = false
-is_draft Draft = true
 
 -- after a record of this number, with type 4 and type 16 told
 abbrev pub whole_behind : ℕ → Bool → Bool → Bool → Bool

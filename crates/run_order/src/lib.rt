@@ -6,14 +6,14 @@ ghost use Rattle.std.specs.Prelude.{◌≡◌, eqb, length};
 ghost use Rattle.limits.specs.Limits.{record_bytes};
 ghost use Rattle.rules.specs.Codes.{kind_of, kind_for, number_of_kind};
 ghost use Rattle.rules.specs.Order.{may_follow, may_end};
-ghost use Rattle.run_order.specs.Whole.{whole_behind, messages_behind, is_remittance, is_draft};
+ghost use Rattle.run_order.specs.Whole.{whole_behind, messages_behind, is_remittance};
 
+use limits::Record;
 use rules::{Assignment, Kind, Mode};
 use services::Service;
 
 // The record type in field 4. Nine records of ten are a 31 or a 30, and are told by their two bytes.
-pub fn kind_of(r: &[u8]) -> Kind
-    requires { length r.now ≡ record_bytes }
+pub fn kind_of(r: &Record) -> Kind
     ensures { result ≡ kind_of r.now }
 {
     if fields::same_at(r, 7, 8, b"31") {
@@ -25,6 +25,7 @@ pub fn kind_of(r: &[u8]) -> Kind
     kind_for(fields::code_at(r, 7))
 }
 
+#[tactic(auto, unfolding(rules::specs::Codes::kind_for))]
 fn kind_for(code: u8) -> Kind
     ensures { result ≡ kind_for code }
 {
@@ -62,40 +63,14 @@ pub fn number_of(kind: Kind) -> u8
     }
 }
 
-fn is_remittance(service: Service) -> bool
-    ensures { result ≡ is_remittance service }
-{
-    match service {
-        Service::Autogiro => false,
-        Service::Remittance => true,
-    }
-}
-
-fn is_draft(mode: Mode) -> bool
-    ensures { result ≡ is_draft mode }
-{
-    match mode {
-        Mode::File => false,
-        Mode::Draft => true,
-    }
-}
-
 // A whole transaction has come: the next one, or the end of the assignment, may follow.
-fn whole_behind(before: Kind, service: Service, code: u8) -> bool
-    ensures { result ≡ whole_behind (number_of_kind before) (is_remittance service) (eqb code 4) (eqb code 16) }
+fn whole_behind(a: Assignment) -> bool
+    ensures { result ≡ whole_behind (number_of_kind a.last) (is_remittance a.service) (eqb a.code 4) (eqb a.code 16) }
 {
-    match before {
-        Kind::R31 => !(is_remittance(service) & ((code == 4) | (code == 16))),
-        Kind::R40 => true,
-        Kind::R41 => true,
-        Kind::R49 => true,
-        Kind::R50 => true,
-        Kind::R10 => false,
-        Kind::R20 => false,
-        Kind::R30 => false,
-        Kind::R88 => false,
-        Kind::R89 => false,
-        Kind::Other => false,
+    match a.last {
+        Kind::R31 => !((a.service == Service::Remittance) & ((a.code == 4) | (a.code == 16))),
+        Kind::R40 | Kind::R41 | Kind::R49 | Kind::R50 => true,
+        _ => false,
     }
 }
 
@@ -103,8 +78,7 @@ fn whole_behind(before: Kind, service: Service, code: u8) -> bool
 fn messages_behind(before: Kind) -> bool
     ensures { result ≡ messages_behind (number_of_kind before) }
 {
-    let last = number_of(before);
-    (last == 40) | (last == 41) | (last == 49)
+    matches!(before, Kind::R40 | Kind::R41 | Kind::R49)
 }
 
 // A record of this type may stand after the assignment's last one.
@@ -112,26 +86,24 @@ pub fn may_follow(mode: Mode, a: Assignment, kind: Kind) -> bool
     ensures { result ≡ may_follow mode a kind }
 {
     let before = a.last;
-    let service = a.service;
-    let code = a.code;
     // Nothing is computed before this match, so that it can be one jump with the match in `kind_for`.
     match kind {
-        Kind::R30 => (number_of(before) == 20) | whole_behind(before, service, code),
-        Kind::R31 => number_of(before) == 30,
-        Kind::R40 => (number_of(before) == 31)
-            & is_remittance(service)
-            & ((code == 3) | (code == 4)),
-        Kind::R41 => number_of(before) == 40,
+        Kind::R30 => (before == Kind::R20) | whole_behind(a),
+        Kind::R31 => before == Kind::R30,
+        Kind::R40 => (before == Kind::R31)
+            & (a.service == Service::Remittance)
+            & ((a.code == 3) | (a.code == 4)),
+        Kind::R41 => before == Kind::R40,
         Kind::R49 => messages_behind(before)
-            | ((number_of(before) == 31) & !is_remittance(service) & (code == 3)),
-        Kind::R50 => (number_of(before) == 50)
-            | ((number_of(before) == 31) & is_remittance(service) & (code == 16)),
-        Kind::R88 => !is_draft(mode) & whole_behind(before, service, code),
-        Kind::R20 => (number_of(before) == 10)
-            | (number_of(before) == 88)
-            | (is_draft(mode) & whole_behind(before, service, code)),
-        Kind::R89 => number_of(before) == 88,
-        Kind::R10 => number_of(before) == 0,
+            | ((before == Kind::R31) & (a.service == Service::Autogiro) & (a.code == 3)),
+        Kind::R50 => (before == Kind::R50)
+            | ((before == Kind::R31) & (a.service == Service::Remittance) & (a.code == 16)),
+        Kind::R88 => (mode == Mode::File) & whole_behind(a),
+        Kind::R20 => (before == Kind::R10)
+            | (before == Kind::R88)
+            | ((mode == Mode::Draft) & whole_behind(a)),
+        Kind::R89 => before == Kind::R88,
+        Kind::R10 => before == Kind::Other,
         Kind::Other => false,
     }
 }
@@ -141,14 +113,7 @@ pub fn may_end(mode: Mode, a: Assignment) -> bool
     ensures { result ≡ may_end mode a }
 {
     match mode {
-        Mode::File => {
-            let before = a.last;
-            number_of(before) == 89
-        }
-        Mode::Draft => {
-            let before = a.last;
-            let service = a.service;
-            whole_behind(before, service, a.code)
-        }
+        Mode::File => a.last == Kind::R89,
+        Mode::Draft => whole_behind(a),
     }
 }

@@ -1,12 +1,12 @@
 -- The figures stay small: a sound record adds at most one to each count, and its sums stay within their limits.
 -- Assumes nothing.
-use Prim.Native.Nat.{ℕ, suc, ◌+◌, ◌≤◌, ◌<◌}
-use mathlib.Core.Path.{◌≡◌, refl, sym, ap, subst, ◌∙◌}
-use mathlib.Core.List.{List, [], ◌∷◌}
+use Prim.Native.Nat.{ℕ, ◌+◌, ◌≤◌}
+use mathlib.Core.Path.{◌≡◌, refl, ap}
+use mathlib.Core.List.{List}
 use mathlib.Core.Bool.{Bool, true, false}
 use native.Mathlib.Omega.{arith}
 use borrow.Author.Tests.{leb-true}
-use lib.Dec.{leb, eqb}
+use lib.Dec.{eqb}
 use Rattle.limits.specs.Limits.{most_records}
 use Rattle.std.specs.Prelude.{if◌then◌else◌}
 use Rattle.services.specs.declared.Service.{Service}
@@ -23,10 +23,10 @@ use Rattle.run_growth.specs.Bounds.{WithinWide, Bounded, Small}
 use Rattle.rules.specs.Codes.{type_code}
 use Rattle.rules.specs.Payments.{amount_in, date_in, limit_for}
 use Rattle.rules.specs.Layouts.{table_for, record30, record50, amount50}
-use Rattle.rules.specs.Growth.{after_for, grouped, grouped_as}
+use Rattle.rules.specs.Growth.{after_for, grouped_as}
 use Rattle.rules.specs.declared.Assignment.{Assignment}
 use Rattle.rules.specs.declared.Kind.{Kind}
-use Rattle.rules.specs.declared.Kind.TheVariants.{R10, R20, R30, R31, R40, R41, R49, R50, R88, R89, Other}
+use Rattle.rules.specs.declared.Kind.TheVariants.{R10, R20, R30, R50, Other}
 use Rattle.rules.specs.declared.State.{State}
 
 -- a record more, or an assignment, or a transaction whose amount the sum takes
@@ -61,6 +61,10 @@ pays f ks w a r h =
 more_paid : (k : ℕ) (f t : Totals) (a : Assignment) (r : List ℕ) → Bounded k t → t.sum.0 + (amount_in r).0 ≤ limit_wide.0 → Bounded (k + 1) (t ⊕ one_transaction (amount_in r) (date_in r))
 more_paid k f t a r b h = record { assignments = omega arith; transactions = omega arith; records = omega arith; sum = h }
 
+-- any window, where a record's rules ask for none
+pub no_window : Window
+no_window = record { latest = record { 0 = 0 }; earliest01 = record { 0 = 0 }; earliest04 = record { 0 = 0 } }
+
 -- the sum that a sub-specification adds to
 abbrev pub sum_of : ℕ → Group → Amount
 sum_of t g = if eqb t 16 then g.specified else g.credited
@@ -90,23 +94,13 @@ small_next k R20 w st ks r s h =
 small_next k R30 w st ks r s h =
     let p = pays st.file ks w st.assignment r h in
     record { file = more_paid k st.file st.file st.assignment r s.file p.file; assignment = more_paid k st.file st.assignment.totals.totals st.assignment r s.assignment p.own; specified = omega arith; credited = omega arith }
-small_next k R31 w st ks r s h =
-    record { file = more_record k st.file s.file; assignment = more_record k st.assignment.totals.totals s.assignment; specified = s.specified; credited = s.credited }
-small_next k R40 w st ks r s h =
-    record { file = more_record k st.file s.file; assignment = more_record k st.assignment.totals.totals s.assignment; specified = s.specified; credited = s.credited }
-small_next k R41 w st ks r s h =
-    record { file = more_record k st.file s.file; assignment = more_record k st.assignment.totals.totals s.assignment; specified = s.specified; credited = s.credited }
-small_next k R49 w st ks r s h =
-    record { file = more_record k st.file s.file; assignment = more_record k st.assignment.totals.totals s.assignment; specified = s.specified; credited = s.credited }
 small_next k R50 w st ks r s h =
     let g = both_within (type_code r) (amount50 r) st.assignment.group s.specified s.credited (specifies st.file ks st.assignment r h) in
     record { file = more_record k st.file s.file; assignment = more_record k st.assignment.totals.totals s.assignment; specified = g.0; credited = g.1 }
-small_next k R88 w st ks r s h =
-    record { file = more_record k st.file s.file; assignment = more_record k st.assignment.totals.totals s.assignment; specified = s.specified; credited = s.credited }
-small_next k R89 w st ks r s h =
-    record { file = more_record k st.file s.file; assignment = more_record k st.assignment.totals.totals s.assignment; specified = s.specified; credited = s.credited }
 small_next k Other w st ks r s h =
     record { file = more_record k st.file s.file; assignment = record { assignments = omega arith; transactions = omega arith; records = omega arith; sum = omega arith }; specified = s.specified; credited = s.credited }
+small_next k kind w st ks r s h =
+    record { file = more_record k st.file s.file; assignment = more_record k st.assignment.totals.totals s.assignment; specified = s.specified; credited = s.credited }
 
 -- the file has room for a transaction whose amount its sum takes
 pub room_for : (st : State) (x : Amount) (d : Date) → Small most_records st → {y : Amount} → x ≡ y → Paying st.file st.assignment y → Room st.file (one_transaction x d)

@@ -1,24 +1,22 @@
 -- One record taken: the step, and what then stands in the keys and the figures that are lent beside the state.
 -- Assumes nothing.
-use Rattle.std.specs.Prelude.{ℕ, ◌≤◌, ◌≡◌, List, eqb, length, take, if◌then◌else◌}
+use Rattle.std.specs.Prelude.{ℕ, ◌≤◌, ◌≡◌, List, eqb, length, take, if◌then◌else◌, Ok, Err}
 use Rattle.figures.specs.declared.totals.AssignmentTotals.{AssignmentTotals}
-use Rattle.limits.specs.Limits.{record_bytes, most_records, most_assignments}
+use Rattle.limits.specs.Limits.{most_records, most_assignments}
 use Rattle.rules.specs.Codes.{number_of_kind}
 use Rattle.rules.specs.Growth.{keys_for}
 use Rattle.rules.specs.declared.Kind.{Kind}
 use Rattle.rules.specs.declared.State.{State}
-use Rattle.rules.specs.declared.Step.{Step}
-use Rattle.rules.specs.declared.Step.TheVariants.{Next, Stop}
 use Rattle.run_growth.specs.Bounds.{Small}
 use Rattle.run_figures.specs.Slots.{put_from, with_figures}
+use Rattle.rules.specs.Run.{Step}
 
 -- as many keys as there are assignments count
 abbrev pub keys_of : State → List ℕ → List ℕ
 keys_of st keys = take st.file.assignments.0 keys
 
--- a record of 81 bytes, figures that cannot wrap, and a slot for each key
-pub record Ready (st : State) (r keys : List ℕ) : Type 0 where
-  pub long : length r ≡ record_bytes
+-- figures that cannot wrap, and a slot for each key
+pub record Ready (st : State) (keys : List ℕ) : Type 0 where
   pub small : Small most_records st
   pub few : st.file.assignments.0 ≤ most_assignments
   pub slots : length keys ≡ most_assignments
@@ -29,8 +27,8 @@ ended_by k n t l = if eqb (number_of_kind k) 20 then with_figures n t l else l
 
 -- where the step stops, all is as it was
 unfoldable pub on_next : Step → List ℕ → List ℕ → List ℕ
-on_next (Next s) next was = next
-on_next (Stop n k) next was = was
+on_next (Ok s) next was = next
+on_next (Err e) next was = was
 
 -- the step that is expected of a record of this type, its key after those before, and the figures of what it ends
 pub record Took (expected : Step) (k : Kind) (st : State) (r keys figures : List ℕ) (x : Step) (keys' figures' : List ℕ) : Type 0 where

@@ -6,7 +6,7 @@ ghost use Rattle.std.specs.Prelude.{◌≡◌};
 ghost use Rattle.services.specs.Services.{code_for, service_for};
 
 // Service 01 draws charges, service 04 pays out.
-#[derive(Clone, Copy)]
+#[derive(Clone, Copy, Debug, PartialEq, Eq)]
 pub enum Service {
     Autogiro,
     Remittance,
@@ -26,8 +26,8 @@ pub fn code_for(service: Service) -> u8
 pub fn service_for(code: u8) -> Service
     ensures { result ≡ service_for code }
 {
-    if code == 1 {
-        return Service::Autogiro;
+    match code {
+        1 => Service::Autogiro,
+        _ => Service::Remittance,
     }
-    Service::Remittance
 }

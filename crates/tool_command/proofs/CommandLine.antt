@@ -1,56 +1,32 @@
--- What a word's length and its digits say of the day and of the number that it is, and that a day of another form is no date.
+-- A word that is none of the six is no command, a day of another form is no date, and the word without a digit is 0.
 -- Assumes nothing.
-use Prim.Native.Nat.{ℕ, ◌≤◌, ◌<◌}
-use mathlib.Core.Path.{◌≡◌, refl, ap}
+use Rattle.std.proofs.Common.{None}
+use Prim.Native.Nat.{ℕ}
+use mathlib.Core.Path.{◌≡◌, refl}
 use mathlib.Core.List.{List, []}
 use mathlib.Core.Bool.{Bool, true, false}
-use lib.Dec.{leb, eqb}
-use lib.ListN.{length}
-use borrow.Author.Tests.{eq-eqb, ne_eqb, le-leb, lt-leb}
 use Rattle.dates.specs.Dates.{is_date, day_of}
-use Rattle.dates.specs.declared.Day.TheVariants.{NoDate}
-use Rattle.fields.specs.Bytes.{every, same}
-use Rattle.fields.specs.Numbers.{value, value_from, number_of, Number, NotDigits}
+use Rattle.fields.specs.Bytes.{every, same, text}
+use Rattle.fields.specs.Numbers.{value_from}
 use Rattle.fields.proofs.Every.{same_is}
-use Rattle.fields.proofs.Values.{number_is, number_not}
-use Rattle.program_lines.specs.Days.{day_written}
-use Rattle.tool_command.specs.CommandLine.{no_day, day_from, number_from}
+use Rattle.tool_command.specs.CommandLine.{command_from, no_day, number_from}
 
--- words of two lengths are not the same
-pub other_length : (s t : List ℕ) → (length s ≡ length t → ⊥) → same s t ≡ false
-other_length s t h = go (same s t) refl
+-- words that differ are not the same
+not_same : (s t : List ℕ) → (s ≡ t → ⊥) → same s t ≡ false
+not_same s t h = go (same s t) refl
   where
     go : (b : Bool) → same s t ≡ b → same s t ≡ false
-    go true e = absurd (h (ap length (same_is s t e)))
+    go true e = absurd (h (same_is s t e))
     go false e = e
 
-module _ (s : List ℕ) where
-  pub day_yes : (n : ℕ) → length s ≡ 6 → number_of s ≡ Number n → day_written n ≡ day_from s
-  unfolding day_from
-  day_yes n l e = let d = number_is s n e in simp (eq-eqb (length s) 6 l, d.0, d.1)
-
-  pub day_other : (length s ≡ 6 → ⊥) → no_day ≡ day_from s
-  unfolding day_from
-  day_other l = simp (ne_eqb (length s) 6 l)
-
-  pub day_no : length s ≡ 6 → number_of s ≡ NotDigits → no_day ≡ day_from s
-  unfolding day_from
-  day_no l e = simp (eq-eqb (length s) 6 l, number_not s e)
-
-  pub number_fits : (n : ℕ) → length s ≤ 17 → number_of s ≡ Number n → n ≡ number_from s
-  unfolding number_from
-  number_fits n l e = let d = number_is s n e in simp (le-leb (length s) 17 l, d.0, d.1)
-
-  pub number_long : 17 < length s → 0 ≡ number_from s
-  unfolding number_from
-  number_long l = simp (lt-leb (length s) 17 l)
-
-  pub number_none : length s ≤ 17 → number_of s ≡ NotDigits → 0 ≡ number_from s
-  unfolding number_from
-  number_none l e = simp (le-leb (length s) 17 l, number_not s e)
+pub no_command : (s : List ℕ)
+    → (s ≡ text "check" → ⊥) → (s ≡ text "make" → ⊥) → (s ≡ text "close" → ⊥) → (s ≡ text "join" → ⊥) → (s ≡ text "part" → ⊥) → (s ≡ text "help" → ⊥)
+    → command_from s ≡ None
+unfolding command_from
+no_command s a b c d e f = simp (not_same s _ a, not_same s _ b, not_same s _ c, not_same s _ d, not_same s _ e, not_same s _ f)
 
 -- the day 0 0 0 is no date
-pub no_date : day_of no_day.year no_day.month no_day.day ≡ NoDate
+pub no_date : day_of no_day.year no_day.month no_day.day ≡ None
 unfolding day_of is_date
 no_date = refl
 

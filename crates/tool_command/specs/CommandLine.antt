@@ -1,22 +1,22 @@
 -- What the words of a command line ask, as the tool's help page has it: a command, the process day DDMMYY, the number K of assignments.
 -- Assumes nothing.
-use Rattle.std.specs.Prelude.{ℕ, List, ◌&&◌, leb, eqb, length, if◌then◌else◌}
+use Rattle.std.specs.Prelude.{ℕ, List, Option, Some, None, ◌&&◌, leb, eqb, length, if◌then◌else◌}
 use Rattle.fields.specs.Bytes.{every, same, is_digit, text}
 use Rattle.fields.specs.Numbers.{value}
 use Rattle.dates.specs.declared.ProcessDay.{ProcessDay}
 use Rattle.program_lines.specs.Days.{day_written}
 use Rattle.tool_command.specs.declared.Command.{Command}
-use Rattle.tool_command.specs.declared.Command.TheVariants.{Check, Make, Close, Join, Part, Help, Unknown}
+use Rattle.tool_command.specs.declared.Command.TheVariants.{Check, Make, Close, Join, Part, Help}
 
 -- the command that a word names, in these letters and no others
-unfoldable pub command_from : List ℕ → Command
+unfoldable pub command_from : List ℕ → Option Command
 command_from word =
-    if same word (text "check") then Check
-    else (if same word (text "make") then Make
-    else (if same word (text "close") then Close
-    else (if same word (text "join") then Join
-    else (if same word (text "part") then Part
-    else (if same word (text "help") then Help else Unknown)))))
+    if same word (text "check") then Some Check
+    else (if same word (text "make") then Some Make
+    else (if same word (text "close") then Some Close
+    else (if same word (text "join") then Some Join
+    else (if same word (text "part") then Some Part
+    else (if same word (text "help") then Some Help else None)))))
 
 -- the words of a command line, `pay` and the command among them: pay part DDMMYY FILE K OUT1 OUT2 has seven
 abbrev pub words_of : Command → ℕ
@@ -26,7 +26,6 @@ words_of Close = 5
 words_of Join = 6
 words_of Part = 7
 words_of Help = 2
-words_of Unknown = 0
 
 -- the day 0 0 0, which is no date
 abbrev pub no_day : ProcessDay

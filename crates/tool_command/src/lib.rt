@@ -1,19 +1,17 @@
 // What the command line asks: the command, the process day, the number of assignments.
 
-#![tactic(auto)]
+#![tactic(auto, unfolding(crate::specs::CommandLine::command_from, crate::specs::CommandLine::day_from, crate::specs::CommandLine::number_from, fields::specs::Bytes::same, fields::specs::Numbers::number_of))]
 
 ghost use Rattle.std.specs.Prelude.{◌≡◌, ◌≤◌, length};
-ghost use Rattle.fields.specs.Bytes.{same};
 ghost use Rattle.tool_command.specs.CommandLine.{command_from, words_of, no_day, day_from, number_from};
 
 use dates::ProcessDay;
-use field_digits::Digits;
 use std::env::{Env, FillError};
 
 // More words than any command takes.
 const TOO_MANY: usize = 8;
 
-#[derive(Clone, Copy)]
+#[derive(Clone, Copy, Debug, PartialEq, Eq)]
 pub enum Command {
     Check,
     Make,
@@ -21,91 +19,60 @@ pub enum Command {
     Join,
     Part,
     Help,
-    Unknown,
 }
 
-fn is_word(s: &[u8], word: &[u8]) -> bool
-    ensures { result ≡ same s.now word.now }
-{
-    if s.len() != word.len() {
-        return false;
-    }
-    field_bytes::texts::same_bytes(s, word)
-}
-
-fn command_from(word: &[u8]) -> Command
+fn command_from(word: &str) -> Option<Command>
     ensures { result ≡ command_from word.now }
 {
-    if is_word(word, b"check") {
-        return Command::Check;
+    match word {
+        "check" => Some(Command::Check),
+        "make" => Some(Command::Make),
+        "close" => Some(Command::Close),
+        "join" => Some(Command::Join),
+        "part" => Some(Command::Part),
+        "help" => Some(Command::Help),
+        _ => None,
     }
-    if is_word(word, b"make") {
-        return Command::Make;
-    }
-    if is_word(word, b"close") {
-        return Command::Close;
-    }
-    if is_word(word, b"join") {
-        return Command::Join;
-    }
-    if is_word(word, b"part") {
-        return Command::Part;
-    }
-    if is_word(word, b"help") {
-        return Command::Help;
-    }
-    Command::Unknown
 }
 
-// The word in this place of the command line, put at the start of the buffer; empty where there is none, or none that fits.
-pub fn word_at(rt: &impl Env, place: usize, buffer: &mut [u8]) -> usize
-    ensures { result ≤ length buffer.new }
+// The word in this place of the command line, which is put into the buffer; empty where there is none, or none that fits.
+pub fn word_at<'a>(rt: &impl Env, place: usize, buffer: &'a mut [u8]) -> &'a [u8]
+    ensures { length result.now ≤ length buffer.old }
 {
-    match rt.arg(place, buffer) {
-        Ok(n) => n,
-        Err(_) => 0,
-    }
+    let n = rt.arg(place, buffer).unwrap_or(0);
+    &buffer[..n]
 }
 
 // Whether the command line has a word in this place.
 fn has_word(rt: &impl Env, place: usize) -> bool {
-    let mut start = [0u8; 1];
-    match rt.arg(place, &mut start) {
-        Ok(_) => true,
-        Err(FillError::TooLong) => true,
-        Err(FillError::NotPresent) => false,
-    }
+    !matches!(rt.arg(place, &mut [0]), Err(FillError::NotPresent))
 }
 
 // How many words the command line has, the program's own among them; more than any command takes are not counted further.
 pub fn words_given(rt: &impl Env) -> usize {
-    for place in 0..TOO_MANY {
-        if !has_word(rt, place) {
-            return place;
-        }
-    }
-    TOO_MANY
+    (0..TOO_MANY)
+        .take_while(|place| has_word(rt, *place))
+        .count()
 }
 
 // The command that the first word names.
-pub fn command_given(rt: &impl Env) -> Command {
-    let mut word = [0u8; 8];
-    let n = word_at(rt, 1, &mut word);
-    command_from(&word[..n])
+pub fn command_given(rt: &impl Env) -> Option<Command> {
+    command_from(str::from_utf8(word_at(rt, 1, &mut [0; 8])).ok()?)
 }
 
-// How many words a command line of this command has, the program's own among them; 0 where there is no such command.
-pub fn words_of(command: Command) -> usize
-    ensures { result ≡ words_of command }
-{
-    match command {
-        Command::Check => 4,
-        Command::Make => 4,
-        Command::Close => 5,
-        Command::Join => 6,
-        Command::Part => 7,
-        Command::Help => 2,
-        Command::Unknown => 0,
+impl Command {
+    // How many words a command line of this command has, the program's own among them.
+    pub fn words(self) -> usize
+        ensures { result ≡ words_of self }
+    {
+        match self {
+            Command::Check => 4,
+            Command::Make => 4,
+            Command::Close => 5,
+            Command::Join => 6,
+            Command::Part => 7,
+            Command::Help => 2,
+        }
     }
 }
 
@@ -126,17 +93,15 @@ fn day_from(word: &[u8]) -> ProcessDay
     if word.len() != 6 {
         return no_day();
     }
-    let Digits::Number(ddmmyy) = field_digits::number(word) else {
-        return no_day();
-    };
-    program_lines::process_day(ddmmyy)
+    match field_digits::number(word) {
+        Some(ddmmyy) => program_lines::process_day(ddmmyy),
+        None => no_day(),
+    }
 }
 
 // The process day.
 pub fn day(rt: &impl Env) -> ProcessDay {
-    let mut word = [0u8; 6];
-    let n = word_at(rt, 2, &mut word);
-    day_from(&word[..n])
+    day_from(word_at(rt, 2, &mut [0; 6]))
 }
 
 // A word that is no number is 0, which is no boundary.
@@ -146,15 +111,10 @@ fn number_from(word: &[u8]) -> u64
     if 17 < word.len() {
         return 0;
     }
-    let Digits::Number(n) = field_digits::number(word) else {
-        return 0;
-    };
-    n
+    field_digits::number(word).unwrap_or(0)
 }
 
 // K of a parting.
 pub fn boundary(rt: &impl Env) -> u64 {
-    let mut word = [0u8; 17];
-    let n = word_at(rt, 4, &mut word);
-    number_from(&word[..n])
+    number_from(word_at(rt, 4, &mut [0; 17]))
 }

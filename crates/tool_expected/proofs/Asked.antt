@@ -37,12 +37,12 @@ pub asks_88 : (f : Totals) (a : Assignment) (r : List ℕ)
     own first_date_field r (shown (figure_for R88 8 (told f a))) ++
     own last_date_field r (shown (figure_for R88 9 (told f a))) ++
     (at 10 54 80 zeros ∷ [])
-unfolding figure_for figure_in
+unfolding figure_in
 asks_88 f a r = refl
 
 -- an 89 to those of the file
 pub asks_89 : (f : Totals) (a : Assignment)
     → (shown (figure_for R89 5 (told f a)) ≡ figure_of transactions f) × (shown (figure_for R89 6 (told f a)) ≡ figure_of records f)
     × (shown (figure_for R89 7 (told f a)) ≡ figure_of sum f) × (shown (figure_for R89 8 (told f a)) ≡ figure_of first_date f)
-unfolding figure_for figure_in
+unfolding figure_in
 asks_89 f a = (refl, refl, refl, refl)

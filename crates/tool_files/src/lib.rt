@@ -8,97 +8,87 @@ use program_lines::path;
 use std::fs::{Files, OpenFile, OpenOptions};
 use std::io::{Error, ErrorKind, Read, Write};
 use std::random::RandomSource;
-use std::{fs, io};
-use tool_names::NAME_ROOM;
-use tool_phrases::say;
+use std::{fmt, fs, io};
+use tool_names::{Mark, NAME_ROOM};
+
+// Why a file is not read or written.
+#[derive(Clone, Copy)]
+enum Trouble {
+    System(Error),
+    // an input, of which there may be at most this
+    TooLong(&'static str),
+}
+
+impl From<Error> for Trouble {
+    fn from(error: Error) -> Trouble {
+        Trouble::System(error)
+    }
+}
+
+impl fmt::Display for Trouble {
+    fn fmt<W: fmt::Write>(&self, f: &mut fmt::Formatter<W>) -> fmt::Result {
+        match self {
+            Trouble::System(error) => f.write_str(meaning(error.kind())),
+            Trouble::TooLong(most) => write!(f, "it is too long, {most}"),
+        }
+    }
+}
 
 // What the system says of a call that failed.
-fn say_error(rt: &impl Print, error: Error) -> io::Result<()> {
-    match error.kind() {
-        ErrorKind::NotFound => say(rt, b"there is no such file or folder"),
-        ErrorKind::PermissionDenied => say(rt, b"you have no permission for this"),
-        ErrorKind::IsADirectory => say(rt, b"it is a folder"),
-        ErrorKind::NotADirectory => say(rt, b"a file stands where a folder should"),
-        ErrorKind::InvalidInput => say(rt, b"it is neither a file nor a folder"),
-        ErrorKind::AlreadyExists => say(
-            rt,
-            b"its new file is there already; do two outputs have one name?",
-        ),
-        ErrorKind::StorageFull => say(rt, b"the disk is full"),
-        ErrorKind::QuotaExceeded => say(rt, b"your share of the disk is full"),
-        ErrorKind::FileTooLarge => say(rt, b"it would be larger than a file may be here"),
-        ErrorKind::ReadOnlyFilesystem => say(rt, b"this disk can only be read"),
-        ErrorKind::InvalidFilename => say(rt, b"the name is too long"),
-        ErrorKind::InvalidData => say(rt, b"the name is not a text in UTF-8"),
-        _ => say(rt, b"the system could not do it"),
+fn meaning(kind: ErrorKind) -> &'static str {
+    match kind {
+        ErrorKind::NotFound => "there is no such file or folder",
+        ErrorKind::PermissionDenied => "you have no permission for this",
+        ErrorKind::IsADirectory => "it is a folder",
+        ErrorKind::NotADirectory => "a file stands where a folder should",
+        ErrorKind::InvalidInput => "it is neither a file nor a folder",
+        ErrorKind::AlreadyExists => "its new file is there already; do two outputs have one name?",
+        ErrorKind::StorageFull => "the disk is full",
+        ErrorKind::QuotaExceeded => "your share of the disk is full",
+        ErrorKind::FileTooLarge => "it would be larger than a file may be here",
+        ErrorKind::ReadOnlyFilesystem => "this disk can only be read",
+        ErrorKind::InvalidFilename => "the name is too long",
+        ErrorKind::InvalidData => "the name is not a text in UTF-8",
+        _ => "the system could not do it",
     }
 }
 
-fn trouble(rt: &impl Print, name: &[u8], error: Error) -> io::Result<()> {
-    say(rt, b"trouble with ")?;
-    say(rt, name)?;
-    say(rt, b": ")?;
-    say_error(rt, error)?;
-    program_lines::end_line(rt)
+fn tell(rt: &impl Print, name: &[u8], trouble: Trouble) -> io::Result<()> {
+    rt.write_all(b"trouble with ")?;
+    rt.write_all(name)?;
+    println!(rt; ": {trouble}")
 }
 
-// None where the file cannot be opened, which is then told.
-pub fn open_input<R: Files + Print>(rt: &R, name: &[u8]) -> io::Result<Option<R::File>> {
-    match program_lines::open(rt, name) {
-        Ok(file) => Ok(Some(file)),
-        Err(e) => {
-            trouble(rt, name, e)?;
-            Ok(None)
-        }
-    }
-}
-
-// After a full buffer or the end of an input nothing more may come; trouble is told, with how long it may be.
-pub fn ended<R: Files + Print>(
-    rt: &R,
-    mut file: R::File,
-    name: &[u8],
-    most: &[u8],
-) -> io::Result<bool> {
-    let mut more = [0u8; 1];
-    match file.read(&mut more) {
-        Ok(0) => Ok(true),
-        Ok(_) => {
-            say(rt, b"trouble with ")?;
-            say(rt, name)?;
-            say(rt, b": it is too long, ")?;
-            say(rt, most)?;
-            program_lines::end_line(rt)?;
-            Ok(false)
-        }
-        Err(e) => {
-            trouble(rt, name, e)?;
-            Ok(false)
-        }
-    }
-}
-
-// How many bytes an input has, which is then whole at the start of the buffer; none where there is trouble, which is told.
-pub fn read_input(
-    rt: &(impl Files + Print),
+// Reads a file whole into the buffer, and says how many bytes it has. After a full buffer or its end nothing more may come.
+fn read_whole(
+    rt: &impl Files,
     name: &[u8],
     buffer: &mut [u8],
-    most: &[u8],
-) -> io::Result<Option<usize>>
-    ensures { IfOk result (λ read. IfSome read (λ n. n ≤ length buffer.new)) }
+    most: &'static str,
+) -> Result<usize, Trouble>
+    ensures { IfOk result (λ n. n ≤ length buffer.new) }
 {
-    let Some(mut file) = open_input(rt, name)? else {
-        return Ok(None);
-    };
-    match program_lines::read_full(&mut file, buffer) {
-        Ok(n) => {
-            if ended(rt, file, name, most)? {
-                return Ok(Some(n));
-            }
-            Ok(None)
-        }
-        Err(e) => {
-            trouble(rt, name, e)?;
+    let mut file = program_lines::open(rt, name)?;
+    let n = program_lines::read_full(&mut file, buffer)?;
+    if file.read(&mut [0])? != 0 {
+        return Err(Trouble::TooLong(most));
+    }
+    Ok(n)
+}
+
+// An input, read whole into the buffer; none where there is trouble, which is told, with how long it may be.
+pub fn read_input<'a>(
+    rt: &(impl Files + Print),
+    name: &[u8],
+    buffer: &'a mut [u8],
+    most: &'static str,
+) -> io::Result<Option<&'a [u8]>>
+    ensures { IfOk result (λ read. IfSome read (λ input. length input.now ≤ length buffer.old)) }
+{
+    match read_whole(rt, name, buffer, most) {
+        Ok(n) => Ok(Some(&buffer[..n])),
+        Err(trouble) => {
+            tell(rt, name, trouble)?;
             Ok(None)
         }
     }
@@ -130,13 +120,14 @@ fn unlink(rt: &impl Files, name: &[u8]) -> io::Result<()> {
 
 // A folder with this name is no output.
 fn no_folder(rt: &impl Files, name: &[u8]) -> io::Result<()> {
-    let mut inside = [0u8; NAME_ROOM];
-    let n = tool_names::lengthened(name, b"/.", &mut inside);
-    match program_lines::open(rt, &inside[..n]) {
+    let mut buffer = [0u8; NAME_ROOM];
+    let Some(inside) = tool_names::lengthened(name, b"/.", &mut buffer) else {
+        return Ok(());
+    };
+    match program_lines::open(rt, inside) {
         Ok(_folder) => Err(Error::from(ErrorKind::IsADirectory)),
         Err(e) => match e.kind() {
-            ErrorKind::NotFound => Ok(()),
-            ErrorKind::NotADirectory => Ok(()),
+            ErrorKind::NotFound | ErrorKind::NotADirectory => Ok(()),
             _ => Err(e),
         },
     }
@@ -146,10 +137,9 @@ fn no_folder(rt: &impl Files, name: &[u8]) -> io::Result<()> {
 fn fit(rt: &impl Files, name: &[u8]) -> io::Result<()> {
     no_folder(rt, name)?;
     match open_update(rt, name) {
-        Ok(file) => match file.sync_all() {
-            Ok(()) => Ok(()),
-            Err(_) => Err(Error::from(ErrorKind::InvalidInput)),
-        },
+        Ok(file) => file
+            .sync_all()
+            .map_err(|_| Error::from(ErrorKind::InvalidInput)),
         Err(e) => match e.kind() {
             ErrorKind::NotFound => Ok(()),
             _ => Err(e),
@@ -163,52 +153,75 @@ fn fill(file: &mut (impl Write + OpenFile), bytes: &[u8]) -> io::Result<()> {
     file.sync_all()
 }
 
-// A new file with these bytes, whole and synced; else none.
-fn make(rt: &impl Files, new: &[u8], name: &[u8], bytes: &[u8]) -> io::Result<()> {
-    fit(rt, name)?;
-    let mut file = create(rt, new)?;
-    let filled = fill(&mut file, bytes);
-    if filled.is_err() {
-        let _ = unlink(rt, new);
-    }
-    filled
+// An output by its name, and the new file that is to take that name.
+#[derive(Clone, Copy)]
+struct Output<'a> {
+    name: &'a [u8],
+    new: &'a [u8],
 }
 
-// The new file takes the output's name, or goes.
-fn settle(rt: &impl Files, new: &[u8], name: &[u8]) -> io::Result<()> {
-    let settled = rename(rt, new, name);
-    if settled.is_err() {
-        let _ = unlink(rt, new);
-    }
-    settled
+// A name beside an output's; empty, which the system refuses, where it would be too long.
+fn beside<'a>(name: &[u8], m: &Mark, word: &[u8; 3], buffer: &'a mut [u8]) -> &'a [u8] {
+    tool_names::beside(name, m, word, buffer).unwrap_or(&[])
 }
 
-// The folder of an output keeps its new name, also when the power goes. A system that cannot do this is let pass: the file itself is whole.
-fn sync_folder(rt: &impl Files, name: &[u8]) {
-    let mut folder = [0u8; NAME_ROOM];
-    let n = tool_names::folder(name, &mut folder);
-    if let Ok(at) = program_lines::open(rt, &folder[..n]) {
-        let _ = at.sync_all();
+impl<'a> Output<'a> {
+    fn of(name: &'a [u8], m: &Mark, buffer: &'a mut [u8]) -> Output<'a> {
+        Output {
+            name,
+            new: beside(name, m, b"new", buffer),
+        }
+    }
+
+    // Where a step did not succeed, the new file goes.
+    fn or_gone(self, rt: &impl Files, step: io::Result<()>) -> io::Result<()> {
+        if step.is_err() {
+            let _ = unlink(rt, self.new);
+        }
+        step
+    }
+
+    // A new file with these bytes, whole and synced; else none.
+    fn make(self, rt: &impl Files, bytes: &[u8]) -> io::Result<()> {
+        fit(rt, self.name)?;
+        let mut file = create(rt, self.new)?;
+        self.or_gone(rt, fill(&mut file, bytes))
+    }
+
+    // The new file takes the output's name, or goes.
+    fn settle(self, rt: &impl Files) -> io::Result<()> {
+        self.or_gone(rt, rename(rt, self.new, self.name))
+    }
+
+    // The folder of an output keeps its new name, also when the power goes. A system that cannot do this is let pass: the file itself is whole.
+    fn sync_folder(self, rt: &impl Files) {
+        let mut buffer = [0u8; NAME_ROOM];
+        let Some(folder) = tool_names::folder(self.name, &mut buffer) else {
+            return;
+        };
+        if let Ok(at) = program_lines::open(rt, folder) {
+            let _ = at.sync_all();
+        }
+    }
+
+    // The new file is made, takes the output's name, and its folder keeps that.
+    fn replace(self, rt: &impl Files, bytes: &[u8]) -> Result<(), Trouble> {
+        self.make(rt, bytes)?;
+        self.settle(rt)?;
+        self.sync_folder(rt);
+        Ok(())
     }
 }
 
 // Whether an output was saved; trouble is told, once all is as it was.
-fn told(rt: &impl Print, name: &[u8], saved: io::Result<()>) -> io::Result<bool> {
-    match saved {
+fn saved(rt: &impl Print, name: &[u8], outcome: Result<(), Trouble>) -> io::Result<bool> {
+    match outcome {
         Ok(()) => Ok(true),
-        Err(e) => {
-            trouble(rt, name, e)?;
+        Err(trouble) => {
+            tell(rt, name, trouble)?;
             Ok(false)
         }
     }
-}
-
-// The new file is made, takes the output's name, and its folder keeps that.
-fn replace(rt: &impl Files, new: &[u8], name: &[u8], bytes: &[u8]) -> io::Result<()> {
-    make(rt, new, name, bytes)?;
-    settle(rt, new, name)?;
-    sync_folder(rt, name);
-    Ok(())
 }
 
 // One output, whole or not at all; trouble is told.
@@ -217,9 +230,33 @@ pub fn save(
     name: &[u8],
     bytes: &[u8],
 ) -> io::Result<bool> {
-    let mut new = [0u8; NAME_ROOM];
-    let n = tool_names::beside(name, tool_names::mark(rt), [110, 101, 119], &mut new);
-    told(rt, name, replace(rt, &new[..n], name, bytes))
+    let mut buffer = [0u8; NAME_ROOM];
+    let output = Output::of(name, &tool_names::mark(rt), &mut buffer);
+    saved(rt, name, output.replace(rt, bytes))
+}
+
+// Two new files take their outputs' names, both or neither: what had the first name is kept aside until both are there.
+fn exchange(
+    rt: &(impl Files + Print),
+    first: Output,
+    old: &[u8],
+    second: Output,
+) -> io::Result<bool> {
+    let stood = rename(rt, first.name, old).is_ok();
+    if let Err(e) = first.settle(rt) {
+        let _ = unlink(rt, second.new);
+        bring_back(rt, stood, old, first.name);
+        return saved(rt, first.name, Err(Trouble::System(e)));
+    }
+    if let Err(e) = second.settle(rt) {
+        let _ = unlink(rt, first.name);
+        bring_back(rt, stood, old, first.name);
+        return saved(rt, second.name, Err(Trouble::System(e)));
+    }
+    first.sync_folder(rt);
+    second.sync_folder(rt);
+    let _ = unlink(rt, old);
+    Ok(true)
 }
 
 // What stood under a name before comes back to it.
@@ -227,34 +264,6 @@ fn bring_back(rt: &impl Files, stood: bool, old: &[u8], name: &[u8]) {
     if stood {
         let _ = rename(rt, old, name);
     }
-}
-
-// Two new files take their outputs' names, both or neither: what had the first name is kept aside until both are there.
-fn exchange(
-    rt: &(impl Files + Print),
-    first: &[u8],
-    new1: &[u8],
-    old: &[u8],
-    second: &[u8],
-    new2: &[u8],
-) -> io::Result<bool> {
-    let stood = rename(rt, first, old).is_ok();
-    let settled = settle(rt, new1, first);
-    if settled.is_err() {
-        let _ = unlink(rt, new2);
-        bring_back(rt, stood, old, first);
-        return told(rt, first, settled);
-    }
-    let settled = settle(rt, new2, second);
-    if settled.is_err() {
-        let _ = unlink(rt, first);
-        bring_back(rt, stood, old, first);
-        return told(rt, second, settled);
-    }
-    sync_folder(rt, first);
-    sync_folder(rt, second);
-    let _ = unlink(rt, old);
-    Ok(true)
 }
 
 // Two outputs, both whole or neither; trouble is told.
@@ -267,19 +276,16 @@ pub fn save_both(
 ) -> io::Result<bool> {
     let m = tool_names::mark(rt);
     let mut new1 = [0u8; NAME_ROOM];
-    let a = tool_names::beside(first, m, [110, 101, 119], &mut new1);
-    let made = make(rt, &new1[..a], first, bytes1);
-    if made.is_err() {
-        return told(rt, first, made);
-    }
     let mut new2 = [0u8; NAME_ROOM];
-    let b = tool_names::beside(second, m, [110, 101, 119], &mut new2);
-    let made = make(rt, &new2[..b], second, bytes2);
-    if made.is_err() {
-        let _ = unlink(rt, &new1[..a]);
-        return told(rt, second, made);
-    }
     let mut old = [0u8; NAME_ROOM];
-    let c = tool_names::beside(first, m, [111, 108, 100], &mut old);
-    exchange(rt, first, &new1[..a], &old[..c], second, &new2[..b])
+    let first = Output::of(first, &m, &mut new1);
+    let second = Output::of(second, &m, &mut new2);
+    if let Err(e) = first.make(rt, bytes1) {
+        return saved(rt, first.name, Err(Trouble::System(e)));
+    }
+    if let Err(e) = second.make(rt, bytes2) {
+        let _ = unlink(rt, first.new);
+        return saved(rt, second.name, Err(Trouble::System(e)));
+    }
+    exchange(rt, first, beside(first.name, &m, b"old", &mut old), second)
 }

@@ -11,6 +11,7 @@ use Rattle.dates.specs.declared.Window.{Window}
 use Rattle.fields.specs.Bytes.{text, every, same}
 use Rattle.fields.specs.Numbers.{value_from, written, code_of}
 use Rattle.fields.proofs.Tests.{and_both}
+use Rattle.layout.specs.Findings.{number_of}
 use Rattle.layout.specs.Rows.{Row, at, must, file, member}
 use Rattle.layout.specs.Rules.{one_of}
 use Rattle.rules.specs.Codes.{service_code}
@@ -55,9 +56,9 @@ abbrev all_pass : (List ℕ → Bool) → List (List ℕ) → Bool
 all_pass test [] = true
 all_pass test (s ∷ ss) = test s && all_pass test ss
 
--- of the rows that give 7; `s` is the record's own service
+-- of the rows that find a field not fixed; `s` is the record's own service
 abbrev pub shown_passes : Kind → ℕ → Row → Bool
-shown_passes k s (at field from to x) = if eqb x.number 7 then all_pass x.test (texts (to + 1 - from) (fixed_for k field s)) else true
+shown_passes k s (at field from to x) = if eqb (number_of x.reason) 7 then all_pass x.test (texts (to + 1 - from) (fixed_for k field s)) else true
 shown_passes k s (must t n field) = true
 shown_passes k s (file t n field) = true
 

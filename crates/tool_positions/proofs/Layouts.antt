@@ -14,11 +14,18 @@ use Rattle.rules.specs.Fields.{message_of, message_by}
 use Rattle.rules.specs.declared.Kind.{Kind}
 use Rattle.rules.specs.declared.Kind.TheVariants.{R10, R20, R30, R31, R40, R41, R49, R50, R88, R89, Other}
 use Rattle.rules.specs.declared.Assignment.{Assignment}
+use Rattle.std.specs.Prelude.{Option, Some, None}
+use Rattle.tool_positions.specs.declared.Positions.{Positions}
 use Rattle.tool_positions.specs.Positions.{message_ends, ends_of, positions_in}
+
+-- exactly these positions
+abbrev pub are : ℕ → ℕ → Option Positions → Bool
+are from to None = false
+are from to (Some p) = eqb from p.from && eqb to p.to
 
 -- among fields that end at these positions
 abbrev pub stands : List ℕ → Row → Bool
-stands ends (at field from to x) = eqb from (positions_in ends field).from && eqb to (positions_in ends field).to
+stands ends (at field from to x) = are from to (positions_in ends field)
 stands ends (must t n field) = true
 stands ends (file t n field) = true
 

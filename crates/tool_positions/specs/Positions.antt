@@ -1,6 +1,6 @@
 -- Document 01, "Layouts", and document 02, No. 2: the last position of each field of a record, with 0 before the first.
 -- Assumes nothing.
-use Rattle.std.specs.Prelude.{ℕ, ◌+◌, ◌-◌, List, [], ◌∷◌, eqb, ltb, get_or, if◌then◌else◌}
+use Rattle.std.specs.Prelude.{ℕ, ◌+◌, ◌-◌, List, [], ◌∷◌, Option, Some, None, eqb, ltb, get_or, if◌then◌else◌}
 use Rattle.rules.specs.declared.Kind.{Kind}
 use Rattle.rules.specs.declared.Kind.TheVariants.{R10, R20, R30, R31, R40, R41, R49, R50, R88, R89, Other}
 use Rattle.tool_positions.specs.declared.Positions.{Positions}
@@ -25,14 +25,11 @@ ends_of R88 s = 0 ∷ 2 ∷ 4 ∷ 6 ∷ 8 ∷ 16 ∷ 24 ∷ 41 ∷ 47 ∷ 53 ∷
 ends_of R89 s = 0 ∷ 2 ∷ 4 ∷ 6 ∷ 8 ∷ 16 ∷ 24 ∷ 41 ∷ 47 ∷ 80 ∷ 80 ∷ []
 ends_of Other s = 0 ∷ 2 ∷ 4 ∷ 6 ∷ 8 ∷ 80 ∷ 80 ∷ 80 ∷ 80 ∷ 80 ∷ 80 ∷ []
 
-abbrev pub nowhere : Positions
-nowhere = record { from = 0; to = 0 }
-
--- a field begins after the one before it; there are at most ten, and from 0 means that there is no such field
-unfoldable pub positions_in : List ℕ → ℕ → Positions
+-- a field begins after the one before it; there are at most ten
+unfoldable pub positions_in : List ℕ → ℕ → Option Positions
 positions_in ends field =
-    if ltb field 1 then nowhere
-    else (if ltb 10 field then nowhere else record { from = get_or ends (field - 1) 0 + 1; to = get_or ends field 0 })
+    if ltb field 1 then None
+    else (if ltb 10 field then None else Some (record { from = get_or ends (field - 1) 0 + 1; to = get_or ends field 0 }))
 
-abbrev pub positions_of : Kind → ℕ → ℕ → Positions
+abbrev pub positions_of : Kind → ℕ → ℕ → Option Positions
 positions_of k s field = positions_in (ends_of k s) field

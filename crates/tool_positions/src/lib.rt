@@ -1,14 +1,13 @@
 // Where the fields of a record stand, positions counted from 1.
 
-#![tactic(auto)]
+#![tactic(auto, unfolding(crate::specs::Positions::message_ends, crate::specs::Positions::positions_in))]
 
 ghost use Rattle.std.specs.Prelude.{◌≡◌};
-ghost use Rattle.tool_positions.specs.Positions.{ends_of, message_ends, nowhere, positions_of};
+ghost use Rattle.tool_positions.specs.Positions.{ends_of, message_ends, positions_of};
 
-use field_words::wide;
 use rules::Kind;
 
-#[derive(Clone, Copy)]
+#[derive(Clone, Copy, Debug, PartialEq, Eq)]
 pub struct Positions {
     pub from: u64,
     pub to: u64,
@@ -43,25 +42,19 @@ fn ends_of(kind: Kind, service: u8) -> [u8; 11]
     }
 }
 
-fn nowhere() -> Positions
-    ensures { result ≡ nowhere }
-{
-    Positions { from: 0, to: 0 }
-}
-
-// The positions of a field, in a record of this type and service; from 0 where there is no such field.
-pub fn positions_of(kind: Kind, service: u8, field: usize) -> Positions
+// The positions of a field in a record of this type and service, where there is such a field.
+pub fn positions_of(kind: Kind, service: u8, field: usize) -> Option<Positions>
     ensures { result ≡ positions_of kind service field }
 {
     if field < 1 {
-        return nowhere();
+        return None;
     }
     if 10 < field {
-        return nowhere();
+        return None;
     }
     let ends = ends_of(kind, service);
-    Positions {
-        from: wide(ends[field - 1]) + 1,
-        to: wide(ends[field]),
-    }
+    Some(Positions {
+        from: u64::from(ends[field - 1]) + 1,
+        to: u64::from(ends[field]),
+    })
 }

@@ -1,13 +1,16 @@
 -- Figures that take a record more, and the walk over the records before.
 -- Assumes nothing.
-use Prim.Native.Nat.{ℕ, ◌+◌, ◌-◌, ◌/◌, ◌≤◌, ◌<◌}
-use mathlib.Core.Path.{◌≡◌, sym, ap, subst, ◌∙◌}
-use mathlib.Core.List.{List}
+use Prim.Native.Nat.{ℕ, suc, ◌+◌, ◌≤◌, ◌<◌}
+use mathlib.Core.Path.{◌≡◌, refl, sym, ap, ap₂, subst, ◌∙◌}
+use mathlib.Core.List.{List, [], ◌∷◌}
 use mathlib.Core.Bool.{Bool, true, false, ◌&&◌}
 use native.Mathlib.Omega.{arith}
 use borrow.Author.Tests.{ltb-true, leb-true}
 use lib.Dec.{ltb, leb}
-use lib.ListN.{length}
+use lib.ListN.{length, get_or, drop, drop_of_length-le}
+use lib.Seq.{drop-cons}
+use Rattle.std.specs.Prelude.{Option, Some}
+use Rattle.std.specs.Option.{unwrap_or}
 use Rattle.dates.specs.declared.Date.{Date}
 use Rattle.fields.proofs.Tests.{and_left, and_right}
 use Rattle.figures.specs.Figures.{amount, within, limit_wide}
@@ -15,15 +18,13 @@ use Rattle.figures.specs.Totals.{none, one_record, one_assignment, one_transacti
 use Rattle.figures.specs.declared.amounts.Amount.{Amount}
 use Rattle.figures.specs.declared.totals.Totals.{Totals}
 use Rattle.dates.specs.Dates.{read_day}
-use Rattle.limits.specs.Limits.{record_bytes, most_records}
-use Rattle.rules.specs.Codes.{type_code, kind_of}
+use Rattle.limits.specs.Limits.{most_records}
+use Rattle.rules.specs.Codes.{type_code}
 use Rattle.rules.specs.Fields.{number_in, transaction_field, date_field, amount_field}
 use Rattle.rules.specs.Payments.{the_date, date_in, amount_in}
-use Rattle.rules.specs.Run.{records_of, record_at}
 use Rattle.rules.specs.declared.Kind.{Kind}
-use Rattle.rules.specs.declared.Kind.TheVariants.{R30, Other}
-use Rattle.rules.proofs.Records.{rest, rest_next, rest_end, rest_start}
-use Rattle.tool_walk.specs.Seen.{outside_of, paid_on, onward_for, onward, onwards, seen_in, has_room, Takes, Payable, Follows, Followed}
+use Rattle.rules.specs.declared.Kind.TheVariants.{R10, R20, R30, R31, R40, R41, R49, R50, R88, R89, Other}
+use Rattle.tool_walk.specs.Seen.{outside_of, passed_on, paid_on, onward_for, onward, onwards, seen_in, has_room, Takes, Payable, Follows, Followed}
 use Rattle.tool_walk.specs.declared.Seen.{Seen}
 
 -- ---- room for a record more
@@ -66,44 +67,44 @@ pub not_both : {b : Bool} → b ≡ true → b ≡ false → ⊥
 not_both h x = let z : ◌≡◌ {A = Bool} true false = sym h ∙ x in let y : ◌≡◌ {A = ℕ} 0 1 = cc in omega arith
 
 -- ---- a payment as its fields were read
-pub paid_is : (b x : Seen) (r : List ℕ) (t n y m : ℕ) (d : Date) → (Takes b (amount m) → x ≡ paid_on t n (amount m) d b) → t ≡ type_code r → number_in transaction_field r ≡ n
-    → number_in date_field r ≡ y → d ≡ the_date (read_day y) → number_in amount_field r ≡ m → Payable b r → x ≡ onward_for R30 r b
+pub paid_is : (b : Seen) (x : Option Seen) (r : List ℕ) (t n y m : ℕ) (d : Date) → (Takes b (amount m) → x ≡ Some (paid_on t n (amount m) d b)) → t ≡ type_code r → number_in transaction_field r ≡ n
+    → number_in date_field r ≡ y → d ≡ the_date (read_day y) → number_in amount_field r ≡ m → Payable b r → x ≡ Some (onward_for R30 r b)
 paid_is b x r t n y m d f et en ey ed em p =
     let k : amount m ≡ amount_in r = ap amount (sym em) in
     let e : d ≡ date_in r = ed ∙ ap (λ (z : ℕ). the_date (read_day z)) (sym ey) in
-    f (subst (Takes b) (sym k) p.takes) ∙ (λ i. paid_on (et i) (sym en i) (k i) (e i) b)
+    f (subst (Takes b) (sym k) p.takes) ∙ (λ i. Some (paid_on (et i) (sym en i) (k i) (e i) b))
 
--- ---- a record of a type that was told
-pub typed : (b x : Seen) (r : List ℕ) (k k' : Kind) → k ≡ kind_of r → k ≡ k' → x ≡ onward_for k' r b → x ≡ onward r b
-typed b x r k k' e h q = q ∙ ap (λ (z : Kind). onward_for z r b) (sym h ∙ e)
+-- ---- any type that only passes
+pub passes : (k : Kind) (r : List ℕ) (s : Seen) → (k ≡ R10 → ⊥) → (k ≡ R20 → ⊥) → (k ≡ R30 → ⊥) → (k ≡ Other → ⊥) → passed_on k s ≡ onward_for k r s
+passes R10 r s a b c d = absurd (a refl)
+passes R20 r s a b c d = absurd (b refl)
+passes R30 r s a b c d = absurd (c refl)
+passes R31 r s a b c d = refl
+passes R40 r s a b c d = refl
+passes R41 r s a b c d = refl
+passes R49 r s a b c d = refl
+passes R50 r s a b c d = refl
+passes R88 r s a b c d = refl
+passes R89 r s a b c d = refl
+passes Other r s a b c d = absurd (d refl)
 
 -- ---- over the records before, one by one
-pub record At (b : List ℕ) (now : Seen) (j : ℕ) : Type 0 where
-  pub within : j ≤ length b / record_bytes
-  pub same : Followed (outside_of Other none) (records_of b) → Followed now (rest b (length b / record_bytes) j) × (onwards now (rest b (length b / record_bytes) j) ≡ seen_in (records_of b))
+pub record At (rs : List (List ℕ)) (now : Seen) (j : ℕ) : Type 0 where
+  pub same : Followed (outside_of Other none) rs → Followed now (drop j rs) × (onwards now (drop j rs) ≡ seen_in rs)
 
-pub at_none : (b : List ℕ) (x : Seen) → x ≡ outside_of Other none → At b x 0
-at_none b x e =
-    let i = rest_start b (length b / record_bytes) in
-    record {
-      within = omega arith;
-      same = λ f. subst (λ (y : Seen). Followed y (rest b (length b / record_bytes) 0) × (onwards y (rest b (length b / record_bytes) 0) ≡ seen_in (records_of b))) (sym e)
-          (subst (Followed (outside_of Other none)) (sym i) f, ap (onwards (outside_of Other none)) i);
-    }
-
-pub at_next : (b r : List ℕ) (x y : Seen) (j : ℕ) → At b x j → j < length b / record_bytes → r ≡ record_at j b → (Follows x r → y ≡ onward r x) → At b y (j + 1)
+pub at_next : (rs : List (List ℕ)) (r : List ℕ) (x y : Seen) (o : Option Seen) (j : ℕ) → At rs x j → j < length rs → r ≡ get_or rs j [] → (Follows x r → o ≡ Some (onward r x)) → y ≡ unwrap_or o x → At rs y (j + 1)
 unfolding Followed onwards
-at_next b r x y j a h i g =
-    let n = rest_next b (length b / record_bytes) j h in
+at_next rs r x y o j a h i g u =
+    let q : suc j ≡ j + 1 = omega arith in
+    let n : drop j rs ≡ r ∷ drop (j + 1) rs = drop-cons rs j [] h ∙ ap₂ (λ (z : List ℕ) (m : ℕ). z ∷ drop m rs) (sym i) q in
     record {
-      within = omega arith;
       same = λ f.
           let s = a.same f in
           let w = subst (Followed x) n s.0 in
-          let e : y ≡ onward (record_at j b) x = g (subst (Follows x) (sym i) w.0) ∙ ap (λ (z : List ℕ). onward z x) i in
-          (subst (λ (z : Seen). Followed z (rest b (length b / record_bytes) (j + 1))) (sym e) w.1, ap (λ (z : Seen). onwards z (rest b (length b / record_bytes) (j + 1))) e ∙ sym (ap (onwards x) n) ∙ s.1);
+          let e : y ≡ onward r x = u ∙ ap (λ (z : Option Seen). unwrap_or z x) (g w.0) in
+          (subst (λ (z : Seen). Followed z (drop (j + 1) rs)) (sym e) w.1, ap (λ (z : Seen). onwards z (drop (j + 1) rs)) e ∙ sym (ap (onwards x) n) ∙ s.1);
     }
 
-pub at_end : (b : List ℕ) (x : Seen) (j : ℕ) → At b x j → length b / record_bytes ≤ j → Followed (outside_of Other none) (records_of b) → x ≡ seen_in (records_of b)
+pub at_end : (rs : List (List ℕ)) (x : Seen) (j : ℕ) → At rs x j → length rs ≤ j → Followed (outside_of Other none) rs → x ≡ seen_in rs
 unfolding onwards
-at_end b x j a h f = sym (ap (onwards x) (rest_end b (length b / record_bytes) j (omega (arith, a.within)))) ∙ (a.same f).1
+at_end rs x j a h f = sym (ap (onwards x) (drop_of_length-le rs h)) ∙ (a.same f).1

@@ -7,7 +7,6 @@ use mathlib.Core.Bool.{true}
 use native.Mathlib.Nat.{pow-le-pow_right}
 use native.Mathlib.Omega.{arith}
 use borrow.Author.Tests.{lt-ltb, le-leb}
-use lib.Dec.{ltb, leb}
 use lib.ListN.{length, length-take}
 use Rattle.limits.specs.Limits.{most_records}
 use Rattle.dates.specs.declared.Window.{Window}
@@ -19,6 +18,7 @@ use Rattle.figures.specs.declared.totals.Totals.{Totals}
 use Rattle.figures.proofs.Laws.{⊕-assoc, ⊕-none}
 use Rattle.run_growth.specs.Bounds.{Bounded, Small}
 use Rattle.layout.specs.Rows.{AllHold}
+use Rattle.layout.specs.declared.Reason.{Reason}
 use Rattle.laws.specs.Meets.{gains, turns, Meets, FirstFault}
 use Rattle.laws.proofs.Follows.{known}
 use Rattle.rules.specs.Codes.{kind_of}
@@ -31,7 +31,7 @@ use Rattle.rules.specs.declared.Kind.TheVariants.{R10, R20, R30, R31, R40, R41, 
 use Rattle.rules.specs.declared.Mode.{Mode}
 use Rattle.rules.specs.declared.State.{State}
 use Rattle.run_loop.proofs.Bounds.{pays, small_next}
-use Rattle.tool_walk.specs.Seen.{told, outside_of, onward_for, onward, onwards, seen_in, has_room, Payable, Follows, Followed}
+use Rattle.tool_walk.specs.Seen.{told, outside_of, onward_for, onwards, seen_in, has_room, Payable, Follows, Followed}
 use Rattle.tool_walk.specs.declared.Seen.{Seen}
 
 -- ---- one record more, here and in the rules
@@ -122,7 +122,7 @@ small_start =
     }
 
 -- THE THEOREM: before the first fault of a file or a draft the walk sees what the rules see
-pub seen_before : (m : Mode) (w : Window) (rs : List (List ℕ)) (i n k : ℕ) (v : FirstFault m w none [] start.assignment rs i n k) → i ≤ most_records
+pub seen_before : (m : Mode) (w : Window) (rs : List (List ℕ)) (i : ℕ) (n : Reason) (k : ℕ) (v : FirstFault m w none [] start.assignment rs i n k) → i ≤ most_records
     → Followed (outside_of Other none) v.before × (seen_in v.before ≡ told (none ⊕ gains v.before) (turns start.assignment v.before))
 seen_before m w rs i n k v l =
     let f = sound_followed m w 0 none [] start.assignment v.before small_start (omega (arith, v.place)) v.meets in

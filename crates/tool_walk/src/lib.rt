@@ -1,28 +1,26 @@
 // What is seen in the records before a refused one: the last record, the assignment, the transaction, and the figures.
 
-#![tactic(auto)]
+#![tactic(auto, unfolding(crate::specs::Seen::has_room))]
 
-ghost use Rattle.std.specs.Prelude.{◌≡◌, true, length};
+ghost use Rattle.std.specs.Prelude.{◌≡◌, true, Some};
 ghost use Rattle.dates.specs.Dates.{read_day};
-ghost use Rattle.limits.specs.Limits.{record_bytes};
 ghost use Rattle.rules.specs.Payments.{the_date};
 ghost use Rattle.rules.specs.Run.{records_of};
 ghost use Rattle.figures.specs.Totals.{none};
 ghost use Rattle.tool_walk.specs.Seen.{outside_of, passed_on, paid_on, onward_for, onward, seen_in, has_room, Takes, Payable, Follows, Followed};
 
-use dates::{Date, Day};
-use field_digits::Digits;
+use dates::Date;
 use figures::amounts::Amount;
 use figures::counts::TransactionNumber;
 use figures::totals::{AssignmentTotals, Totals};
-use limits::{MOST_OF_ALL, MOST_RECORDS, RECORD_BYTES};
+use limits::{MOST_OF_ALL, MOST_RECORDS, Record};
 use rules::Kind;
 use services::Service;
 
 // The last transaction number: it has seven digits.
 pub const LAST_NUMBER: u64 = 9_999_999;
 
-#[derive(Clone, Copy)]
+#[derive(Clone, Copy, Debug, PartialEq, Eq)]
 pub struct Seen {
     pub last: Kind,
     pub service: Service,
@@ -52,28 +50,20 @@ fn outside(kind: Kind, file: Totals) -> Seen
 fn has_room(t: Totals) -> bool
     ensures { result ≡ has_room t }
 {
-    let assignments = t.assignments;
-    let transactions = t.transactions;
-    let records = t.records;
-    let sum = t.sum;
-    ((assignments.0 as usize) < MOST_RECORDS)
-        & ((transactions.0 as usize) < MOST_RECORDS)
-        & ((records.0 as usize) < MOST_RECORDS)
-        & (sum.0 <= MOST_OF_ALL)
+    ((t.assignments.0 as usize) < MOST_RECORDS)
+        & ((t.transactions.0 as usize) < MOST_RECORDS)
+        & ((t.records.0 as usize) < MOST_RECORDS)
+        & (t.sum.0 <= MOST_OF_ALL)
 }
 
-fn opened(seen: Seen, r: &[u8]) -> Seen
-    requires { (length r.now ≡ record_bytes) × (has_room seen.file ≡ true) }
+fn opened(seen: Seen, r: &Record) -> Seen
+    requires { has_room seen.file ≡ true }
     ensures { result ≡ onward_for Kind.R20 r.now seen }
 {
-    let file = seen.file;
     Seen {
-        last: Kind::R20,
         service: services::service_for(fields::code_at(r, 3)),
-        code: 0,
-        number: TransactionNumber(0),
         totals: AssignmentTotals::none().with_assignment(),
-        file: file.with_assignment(),
+        ..outside(Kind::R20, seen.file.with_assignment())
     }
 }
 
@@ -81,102 +71,72 @@ fn passed(seen: Seen, kind: Kind) -> Seen
     requires { (has_room seen.file ≡ true) × (has_room seen.totals.totals ≡ true) }
     ensures { result ≡ passed_on kind seen }
 {
-    let service = seen.service;
-    let number = seen.number;
-    let totals = seen.totals;
-    let file = seen.file;
     Seen {
         last: kind,
-        service,
-        code: seen.code,
-        number,
-        totals: totals.with_record(),
-        file: file.with_record(),
+        totals: seen.totals.with_record(),
+        file: seen.file.with_record(),
+        ..seen
     }
 }
 
 fn date_from(ddmmyy: u64) -> Date
     ensures { result ≡ the_date (read_day ddmmyy) }
 {
-    match dates::read_day(ddmmyy) {
-        Day::On(date) => date,
-        Day::NoDate => Date(0),
-    }
+    dates::read_day(ddmmyy).unwrap_or(Date(0))
 }
 
-// After a record 30 of this number, amount and date.
-fn with_payment(seen: Seen, code: u8, number: u32, amount: Amount, date: Date) -> Seen
+// After a record 30 of this number, amount and date; none where a sum does not take the amount.
+fn with_payment(seen: Seen, code: u8, number: u32, amount: Amount, date: Date) -> Option<Seen>
     requires { (has_room seen.file ≡ true) × (has_room seen.totals.totals ≡ true) }
-    ensures { Takes seen amount → result ≡ paid_on code number amount date seen }
+    ensures { Takes seen amount → result ≡ Some (paid_on code number amount date seen) }
 {
-    let service = seen.service;
-    let totals = seen.totals;
-    let figures = totals.totals;
-    let file = seen.file;
-    let own = figures.sum;
-    let whole = file.sum;
-    if !own.holds(amount, Amount(MOST_OF_ALL)) {
-        return seen;
+    if !seen.totals.totals.sum.holds(amount, Amount(MOST_OF_ALL)) {
+        return None;
     }
-    if !whole.holds(amount, Amount(MOST_OF_ALL)) {
-        return seen;
+    if !seen.file.sum.holds(amount, Amount(MOST_OF_ALL)) {
+        return None;
     }
-    Seen {
+    Some(Seen {
         last: Kind::R30,
-        service,
         code,
         number: TransactionNumber(number),
-        totals: totals.with_transaction(amount, date),
-        file: file.with_transaction(amount, date),
-    }
+        totals: seen.totals.with_transaction(amount, date),
+        file: seen.file.with_transaction(amount, date),
+        ..seen
+    })
 }
 
-fn paid(seen: Seen, r: &[u8]) -> Seen
-    requires { (length r.now ≡ record_bytes) × (has_room seen.file ≡ true) × (has_room seen.totals.totals ≡ true) }
-    ensures { Payable seen r.now → result ≡ onward_for Kind.R30 r.now seen }
+// None where the record was not found sound.
+fn paid(seen: Seen, r: &Record) -> Option<Seen>
+    requires { (has_room seen.file ≡ true) × (has_room seen.totals.totals ≡ true) }
+    ensures { Payable seen r.now → result ≡ Some (onward_for Kind.R30 r.now seen) }
 {
-    let Digits::Number(number) = fields::number_at(r, 9, 15) else {
-        return seen;
-    };
-    let Digits::Number(ddmmyy) = fields::number_at(r, 16, 21) else {
-        return seen;
-    };
-    let Digits::Number(amount) = fields::number_at(r, 33, 49) else {
-        return seen;
-    };
+    let number = fields::number_at(r, 9, 15)?;
+    let ddmmyy = fields::number_at(r, 16, 21)?;
+    let amount = fields::number_at(r, 33, 49)?;
     if LAST_NUMBER < number {
-        return seen;
+        return None;
     }
     let code = fields::code_at(r, 5);
     with_payment(seen, code, number as u32, Amount(amount), date_from(ddmmyy))
 }
 
-// After one record more.
-fn grown(seen: Seen, r: &[u8]) -> Seen
-    requires { length r.now ≡ record_bytes }
-    ensures { Follows seen r.now → result ≡ onward r.now seen }
+// After one record more; none where it was not found sound.
+fn grown(seen: Seen, r: &Record) -> Option<Seen>
+    ensures { Follows seen r.now → result ≡ Some (onward r.now seen) }
 {
-    let file = seen.file;
-    let totals = seen.totals;
-    if !has_room(file) {
-        return seen;
+    if !has_room(seen.file) {
+        return None;
     }
-    if !has_room(totals.totals) {
-        return seen;
+    if !has_room(seen.totals.totals) {
+        return None;
     }
-    let kind = run_order::kind_of(r);
-    match kind {
-        Kind::R10 => outside(Kind::R10, file.with_record()),
-        Kind::R20 => opened(seen, r),
+    match run_order::kind_of(r) {
+        Kind::R10 => Some(outside(Kind::R10, seen.file.with_record())),
+        Kind::R20 => Some(opened(seen, r)),
         Kind::R30 => paid(seen, r),
-        Kind::R31 => passed(seen, Kind::R31),
-        Kind::R40 => passed(seen, Kind::R40),
-        Kind::R41 => passed(seen, Kind::R41),
-        Kind::R49 => passed(seen, Kind::R49),
-        Kind::R50 => passed(seen, Kind::R50),
-        Kind::R88 => passed(seen, Kind::R88),
-        Kind::R89 => passed(seen, Kind::R89),
-        Kind::Other => seen,
+        Kind::Other => None,
+        kind => Some(passed(seen, kind)),
     }
 }
 
@@ -184,12 +144,9 @@ fn grown(seen: Seen, r: &[u8]) -> Seen
 pub fn seen_in(records: &[u8]) -> Seen
     ensures { Followed (outside_of Kind.Other none) (records_of records.now) → result ≡ seen_in (records_of records.now) }
 {
-    let count = records.len() / RECORD_BYTES;
     let mut seen = outside(Kind::Other, Totals::none());
-    let mut j: usize = 0;
-    while j < count {
-        seen = grown(seen, rules::record_at(records, j));
-        j += 1;
+    for r in rules::records_of(records) {
+        seen = grown(seen, r).unwrap_or(seen);
     }
     seen
 }

@@ -2,191 +2,142 @@
 
 #![tactic(auto)]
 
-ghost use Rattle.std.specs.Prelude.{◌+◌, ◌≤◌, ◌<◌, length};
+ghost use Rattle.std.specs.Prelude.{◌≤◌, length};
 
 use dates::ProcessDay;
-use field_digits::Digits;
-use make_lines::Drafting;
-use rules::Verdict;
+use program_lines::{Answer, JoinAnswer, Made, PartAnswer};
 use std::fs::Files;
 use std::io;
 
 // Room for the longest vector, and for each of its outputs.
 const ROOM: usize = 163_840;
 
-// Six digits of the first line, from this position on; 0 where there are none.
-fn six_at(all: &[u8], from: usize) -> u64
-    requires { (1 ≤ from) × (from + 5 ≤ length all.now) }
+// The first line of a vector that has outputs: a word, and up to four numbers of six digits.
+const HEAD: usize = 34;
+
+type Head = [u8; HEAD];
+
+// A number of the first line; 0 where there is none.
+fn six(digits: &[u8]) -> u64
+    requires { length digits.now ≤ 6 }
 {
-    let to = from + 5;
-    let Digits::Number(n) = fields::number_at(all, from, to) else {
-        return 0;
-    };
-    n
+    field_digits::number(digits).unwrap_or(0)
 }
 
-fn with_byte(h: u64, byte: u8) -> u64
-    requires { h < 4294967296 }
-    ensures { result < 4294967296 }
+// The day of the first line, which is its first number.
+fn day(line: &[u8]) -> ProcessDay
+    requires { 13 ≤ length line.now }
 {
-    (h * 31 + byte as u64) % 4294967296
+    program_lines::process_day(six(&line[6..12]))
 }
 
 // A number that every byte of an output goes into.
-fn hash(bytes: &[u8]) -> u64 {
-    let mut h: u64 = 0;
-    let mut i: usize = 0;
-    while i < bytes.len() {
-        h = with_byte(h, bytes[i]);
-        i += 1;
-    }
-    h
+fn hash(bytes: &[u8]) -> u32 {
+    bytes.iter().fold(
+        0u32,
+        |h, byte| h.wrapping_mul(31).wrapping_add(*byte as u32),
+    )
 }
 
 fn no_vector(rt: &impl Print) -> io::Result<()> {
-    rt.write_all(b"no vector")
+    rt.print("no vector")
 }
 
 // `check DDMMYY` and a line feed, then a file.
-fn check(rt: &impl Print, all: &[u8]) -> io::Result<()>
-    requires { 13 ≤ length all.now }
-{
-    let day = program_lines::process_day(six_at(all, 7));
-    program_lines::print_answer(rt, check_file::check(day, &all[13..]))
+fn check(rt: &impl Print, all: &[u8]) -> io::Result<()> {
+    match all.split_at_checked(13) {
+        Some((line, file)) => print!(rt; "{}", Answer(check_file::check(day(line), file))),
+        None => no_vector(rt),
+    }
 }
 
 // `close DDMMYY ROOM`, then a draft.
-fn close(rt: &impl Print, all: &[u8], out: &mut [u8]) -> io::Result<()>
-    requires { 34 ≤ length all.now }
-{
-    let room = six_at(all, 14) as usize;
-    if out.len() < room {
+fn close(rt: &impl Print, head: &Head, draft: &[u8], out: &mut [u8]) -> io::Result<()> {
+    let Some(out) = out.get_mut(..six(&head[13..19]) as usize) else {
         return no_vector(rt);
-    }
-    let day = program_lines::process_day(six_at(all, 7));
-    let verdict = close_draft::close(day, &all[34..], &mut out[0..room]);
-    program_lines::print_answer(rt, verdict)?;
-    program_lines::print_number(rt, hash(&out[0..room]))
+    };
+    let verdict = close_draft::close(day(head), draft, out);
+    print!(rt; "{} {}", Answer(verdict), hash(out))
 }
 
 // `join  DDMMYY LENGTH ROOM`, then the first file, which has this length, and the second.
-fn join(rt: &impl Print, all: &[u8], out: &mut [u8]) -> io::Result<()>
-    requires { 34 ≤ length all.now }
-{
-    let length = six_at(all, 14) as usize;
-    let room = six_at(all, 21) as usize;
-    if all.len() - 34 < length {
+fn join(rt: &impl Print, head: &Head, files: &[u8], out: &mut [u8]) -> io::Result<()> {
+    let Some((first, second)) = files.split_at_checked(six(&head[13..19]) as usize) else {
         return no_vector(rt);
-    }
-    let to = 34 + length;
-    if out.len() < room {
+    };
+    let Some(out) = out.get_mut(..six(&head[20..26]) as usize) else {
         return no_vector(rt);
-    }
-    let day = program_lines::process_day(six_at(all, 7));
-    let verdict = join_files::join(day, &all[34..to], &all[to..], &mut out[0..room]);
-    program_lines::print_answer(rt, verdict)?;
-    program_lines::print_operand(rt, verdict)?;
-    program_lines::print_number(rt, hash(&out[0..room]))
+    };
+    let verdict = join_files::join(day(head), first, second, out);
+    print!(rt; "{} {}", JoinAnswer(verdict), hash(out))
 }
 
 // `part  DDMMYY K ROOM ROOM`, then a file.
-fn part(rt: &impl Print, all: &[u8], first: &mut [u8], second: &mut [u8]) -> io::Result<()>
-    requires { 34 ≤ length all.now }
-{
-    let room1 = six_at(all, 21) as usize;
-    let room2 = six_at(all, 28) as usize;
-    if first.len() < room1 {
+fn part(
+    rt: &impl Print,
+    head: &Head,
+    file: &[u8],
+    first: &mut [u8],
+    second: &mut [u8],
+) -> io::Result<()> {
+    let Some(first) = first.get_mut(..six(&head[20..26]) as usize) else {
         return no_vector(rt);
-    }
-    if second.len() < room2 {
+    };
+    let Some(second) = second.get_mut(..six(&head[27..33]) as usize) else {
         return no_vector(rt);
-    }
-    let parting = part_file::part(
-        program_lines::process_day(six_at(all, 7)),
-        &all[34..],
-        six_at(all, 14),
-        &mut first[0..room1],
-        &mut second[0..room2],
-    );
-    program_lines::print_parting(rt, parting)?;
-    program_lines::print_number(rt, hash(&first[0..room1]))?;
-    program_lines::print_number(rt, hash(&second[0..room2]))
+    };
+    let parting = part_file::part(day(head), file, six(&head[13..19]), first, second);
+    print!(rt; "{} {} {}", PartAnswer(parting), hash(first), hash(second))
 }
 
 // `make  000000 ROOM`, then lines of values.
-fn make(rt: &impl Print, all: &[u8], out: &mut [u8]) -> io::Result<()>
-    requires { 34 ≤ length all.now }
-{
-    let room = six_at(all, 14) as usize;
-    if out.len() < room {
+fn make(rt: &impl Print, head: &Head, values: &[u8], out: &mut [u8]) -> io::Result<()> {
+    let Some(out) = out.get_mut(..six(&head[13..19]) as usize) else {
         return no_vector(rt);
-    }
-    match make_lines::make_draft(&all[34..], &mut out[0..room]) {
-        Drafting::Drafted(records) => program_lines::print_made(rt, records)?,
-        Drafting::NotDrafted(x) => program_lines::print_answer(rt, Verdict::Refused(x))?,
-    }
-    program_lines::print_number(rt, hash(&out[0..room]))
+    };
+    match make_lines::make_draft(values, out) {
+        Ok(records) => print!(rt; "{}", Made(records)),
+        Err(x) => print!(rt; "{}", Answer(Err(x))),
+    }?;
+    print!(rt; " {}", hash(out))
 }
 
-// By the first two letters of the first line; outputs hold `#` before anything is written.
+// By the first two letters of the first line; outputs hold `#` before anything is written. An input too short for the others is a check.
 fn answer(rt: &impl Print, all: &[u8]) -> io::Result<()> {
-    if all.len() < 34 {
-        return answer_short(rt, all);
+    let mut first = [b'#'; ROOM];
+    let mut second = [b'#'; ROOM];
+    let Some((head, input)) = all.split_first_chunk::<HEAD>() else {
+        return check(rt, all);
+    };
+    match head {
+        [b'j', ..] => join(rt, head, input, &mut first),
+        [b'p', ..] => part(rt, head, input, &mut first, &mut second),
+        [b'm', ..] => make(rt, head, input, &mut first),
+        [_, b'l', ..] => close(rt, head, input, &mut first),
+        _ => check(rt, all),
     }
-    let mut first = [35u8; ROOM];
-    let mut second = [35u8; ROOM];
-    if all[0] == b'j' {
-        return join(rt, all, &mut first);
-    }
-    if all[0] == b'p' {
-        return part(rt, all, &mut first, &mut second);
-    }
-    if all[0] == b'm' {
-        return make(rt, all, &mut first);
-    }
-    if all[1] == b'l' {
-        return close(rt, all, &mut first);
-    }
-    check(rt, all)
 }
 
-// An input too short for anything but a check.
-fn answer_short(rt: &impl Print, all: &[u8]) -> io::Result<()> {
-    if all.len() < 13 {
-        return no_vector(rt);
-    }
-    check(rt, all)
-}
-
-// The vector of this number, if there is one.
+// Whether there is a vector of this number; it is answered.
 fn one(rt: &(impl Files + Print), k: u64) -> io::Result<bool> {
-    let name = [
-        b'v',
-        (48 + k / 1000 % 10) as u8,
-        (48 + k / 100 % 10) as u8,
-        (48 + k / 10 % 10) as u8,
-        (48 + k % 10) as u8,
-    ];
+    let mut name = *b"v0000";
+    fields::put_number(&mut name[1..], k);
     let Ok(mut file) = program_lines::open(rt, &name) else {
         return Ok(false);
     };
     let mut buffer = [0u8; ROOM];
     let n = program_lines::read_full(&mut file, &mut buffer)?;
-    rt.write_all(&name)?;
-    rt.write_all(b" ")?;
+    print!(rt; "v{k:04} ")?;
     answer(rt, &buffer[..n])?;
-    program_lines::end_line(rt)?;
+    rt.println("")?;
     Ok(true)
 }
 
-fn all(rt: &(impl Files + Print)) -> io::Result<()> {
-    let mut k: u64 = 0;
-    while k < 10000 && one(rt, k)? {
-        k += 1;
+fn main(rt: HostRuntime) -> io::Result<()> {
+    for k in 0..10000 {
+        if !one(&rt, k)? {
+            break;
+        }
     }
     Ok(())
-}
-
-fn main(rt: HostRuntime) -> io::Result<()> {
-    all(&rt)
 }

@@ -20,8 +20,7 @@ pub fn put_digits(out: &mut [u8], at: usize, width: usize, n: u64)
     requires { at + width ≤ length out.old }
     ensures { out.new ≡ take at out.old ++ (written width n ++ drop (at + width) out.old) }
 {
-    let end = at + width;
-    fields::put_number(&mut out[at..end], n);
+    fields::put_number(&mut out[at..at + width], n);
 }
 
 // Puts a text after the first `at` bytes, blanks behind it as far as the field is wide.
@@ -29,8 +28,7 @@ pub fn put_left_at(out: &mut [u8], at: usize, width: usize, text: &[u8])
     requires { (at + width ≤ length out.old) × (length text.now ≤ width) }
     ensures { out.new ≡ take at out.old ++ (to_left width text.now ++ drop (at + width) out.old) }
 {
-    let end = at + width;
-    field_texts::put_left(&mut out[at..end], text);
+    field_texts::put_left(&mut out[at..at + width], text);
 }
 
 // The same with the blanks before the text.
@@ -38,8 +36,7 @@ pub fn put_right_at(out: &mut [u8], at: usize, width: usize, text: &[u8])
     requires { (at + width ≤ length out.old) × (length text.now ≤ width) }
     ensures { out.new ≡ take at out.old ++ (to_right width text.now ++ drop (at + width) out.old) }
 {
-    let end = at + width;
-    field_texts::put_right(&mut out[at..end], text);
+    field_texts::put_right(&mut out[at..at + width], text);
 }
 
 // Fields 1 to 4 of a record, over the start of an output.
@@ -47,8 +44,8 @@ pub fn put_head(out: &mut [u8], service: u64, code: u64, kind: u64)
     requires { 8 ≤ length out.old }
     ensures { out.new ≡ head_bytes service code kind ++ drop 8 out.old }
 {
-    put_byte(out, 0, 78);
-    put_byte(out, 1, 89);
+    put_byte(out, 0, b'N');
+    put_byte(out, 1, b'Y');
     put_digits(out, 2, 2, service);
     put_digits(out, 4, 2, code);
     put_digits(out, 6, 2, kind);

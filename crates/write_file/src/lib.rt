@@ -15,17 +15,13 @@ fn put_figures(out: &mut [u8], t: Totals, last: Date)
     requires { 73 ≤ length out.old }
     ensures { out.new ≡ figure_bytes t last ++ drop 73 out.old }
 {
-    let transactions = t.transactions;
-    let records = t.records;
-    let sum = t.sum;
-    let first = t.first;
-    write_fields::put_digits(out, 0, 8, transactions.0 as u64);
-    write_fields::put_digits(out, 8, 8, records.0 as u64);
-    write_fields::put_digits(out, 16, 17, sum.0);
-    write_fields::put_digits(out, 33, 6, dates::ddmmyy_of(first));
+    write_fields::put_digits(out, 0, 8, u64::from(t.transactions.0));
+    write_fields::put_digits(out, 8, 8, u64::from(t.records.0));
+    write_fields::put_digits(out, 16, 17, t.sum.0);
+    write_fields::put_digits(out, 33, 6, dates::ddmmyy_of(t.first));
     write_fields::put_digits(out, 39, 6, dates::ddmmyy_of(last));
     write_fields::put_digits(out, 45, 27, 0);
-    write_fields::put_byte(out, 72, 10);
+    write_fields::put_byte(out, 72, b'\n');
 }
 
 // An end record over the start of an output.

@@ -5,12 +5,12 @@ use Rattle.check_file.proofs.judge.Goals as goal
 pub returns-then-bad_length : goal.returns-then-bad_length
 returns-then-bad_length c =
     let a = c.args in
-    (c.refuse.ensures ∙ wrong_length a.w a.file.now _ c.bad_length.ensures c.if-bad_length.true, leaves_none _ _ _ _ 2 c.refuse.ensures)
+    (c.refuse.ensures ∙ wrong_length a.w a.file.now _ c.bad_length.ensures c.if-bad_length.true, leaves_none _ _ _ _ _ c.refuse.ensures)
 
 pub returns-then-file-gt-MOST_RECORDS : goal.returns-then-file-gt-MOST_RECORDS
 returns-then-file-gt-MOST_RECORDS c =
     let a = c.args in
-    (c.refuse-then-file-gt-MOST_RECORDS.ensures ∙ too_many a.w a.file.now _ c.bad_length.ensures c.if-bad_length.false c.if-file-gt-MOST_RECORDS.true, leaves_none _ _ _ _ 3 c.refuse-then-file-gt-MOST_RECORDS.ensures)
+    (c.refuse-then-file-gt-MOST_RECORDS.ensures ∙ too_many a.w a.file.now _ c.bad_length.ensures c.if-bad_length.false c.if-file-gt-MOST_RECORDS.true, leaves_none _ _ _ _ _ c.refuse-then-file-gt-MOST_RECORDS.ensures)
 
 pub returns : goal.returns
 returns c =

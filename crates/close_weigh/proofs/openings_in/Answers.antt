@@ -1,16 +1,15 @@
-use mathlib.Core.Path.{refl}
-use native.Mathlib.Omega.{arith}
-use Rattle.close_weigh.proofs.Counting.{counted_none, counted_next, counted_all, one_at_most}
+-- Assumes nothing.
+use mathlib.Core.Path.{ap, ◌∙◌}
+use Rattle.std.proofs.Common.{rules, tests}
+use Rattle.std.proofs.lemmas.Iterator.{YieldsList-from_slice}
+use Rattle.std.proofs.lemmas.Iterator.Consumers.{YieldsList-from_filter, count_from_yields_List}
+use Rattle.operations.specs.Closing.{opens, openings}
+use Rattle.close_weigh.proofs.Counting.{openings_filter, few_opened}
 use Rattle.close_weigh.proofs.openings_in.Goals as goal
 
-pub loop-k-init : goal.loop-k-init
-loop-k-init c = (counted_none _, refl)
-
-pub overflow_add-found : goal.overflow_add-found
-overflow_add-found c = omega (arith, c.loop-k.invariant.0.few, one_at_most c.record_at.result.now _ c.opening-found.ensures)
-
-pub loop-k-preserved : goal.loop-k-preserved
-loop-k-preserved c = (counted_next _ _ _ _ _ c.loop-k.invariant.0 (omega arith) c.record_at.ensures.0 c.opening-found.ensures, refl)
-
 pub returns : goal.returns
-returns c = counted_all _ _ _ c.loop-k.invariant.0 (omega arith)
+returns c =
+    let d = c.args.draft.now in
+    let e = count_from_yields_List c.filter.result _ c.count.ensures.ran (YieldsList-from_filter _ opens (YieldsList-from_slice c.records_of.result.now cc) c.filter.ensures.closure (λ x r q k. search (rules, tests)))
+    ∙ openings_filter _ ∙ ap openings c.records_of.ensures.are in
+    (e, few_opened d _ e)

@@ -12,5 +12,5 @@ pub returns : goal.returns
 returns c =
     let a = c.args in
     let p = c.requires in
-    let s = c.service_in-service.ensures ∙ ap (λ (r : List ℕ). code_for (service_for (service_code r))) c.record_at.ensures.0 in
+    let s = c.service_in-service.ensures ∙ ap (λ (r : List ℕ). code_for (service_for (service_code r))) c.record_at.ensures in
     (refl, assignment_put a.draft.now a.out.now _ _ a.from a.next a.own p.0 p.1 _ s c.copy_to.ensures c.put_end.ensures)

@@ -1,14 +1,15 @@
-use Prim.Native.Nat.{◌-◌}
-use mathlib.Core.Path.{refl}
-use native.Mathlib.Omega.{arith}
-use Rattle.join_pairs.proofs.Shared.{shared_next, shared_end}
+-- Some key of the second list stands in the first.
+-- Assumes nothing.
+use mathlib.Core.Path.{◌∙◌}
+use Prim.Native.Nat.{ℕ}
+use Rattle.std.proofs.Common.{rules, tests}
+use Rattle.std.proofs.lemmas.Iterator.{YieldsList-from_slice}
+use Rattle.std.proofs.lemmas.Iterator.Search.{any_from_yields_List}
+use Rattle.layout.specs.Rows.{member}
+use Rattle.join_pairs.proofs.Shared.{shares_any}
 use Rattle.join_pairs.proofs.any_shared.Goals as goal
 
-pub loop-i-init : goal.loop-i-init
-loop-i-init c = (omega arith, refl)
-
-pub loop-i-preserved : goal.loop-i-preserved
-loop-i-preserved c = (omega arith, shared_next _ c.args.theirs.now c.args.others c.loop-i.i _ c.loop-i.found _ (omega arith) c.requires.1 refl c.seen-found.ensures c.loop-i.invariant.1)
-
 pub returns : goal.returns
-returns c = shared_end _ c.args.theirs.now c.args.others c.loop-i.i c.loop-i.found (omega arith) c.loop-i.invariant.1
+returns c =
+    let a = c.args in
+    any_from_yields_List (λ (k : ℕ). member k a.ours.now) _ _ _ c.any.ensures.ran (YieldsList-from_slice a.theirs.now cc) (λ x b q k. search (rules, tests)) ∙ shares_any a.ours.now a.theirs.now

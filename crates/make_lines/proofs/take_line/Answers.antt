@@ -8,14 +8,14 @@ returns-then-is_passed_over c =
     let p = sym c.is_passed_over.ensures ∙ c.if-is_passed_over.true in
     (taken_passed _ _ p, bytes_passed _ _ p)
 
-pub returns-in-Made : goal.returns-in-Made
-returns-in-Made c =
+pub returns-in-Ok : goal.returns-in-Ok
+returns-in-Ok c =
     let p = sym c.is_passed_over.ensures ∙ c.if-is_passed_over.false in
     let m = c.make_line-making.ensures in
-    (sym (ap taken_by c.in-Made.is) ∙ taken_else _ _ _ p m.answers, bytes_else _ _ _ p m.leaves)
+    (sym (ap taken_by c.in-Ok.is) ∙ taken_else _ _ _ p m.answers, bytes_else _ _ _ p m.leaves)
 
-pub returns-in-NotMade : goal.returns-in-NotMade
-returns-in-NotMade c =
+pub returns-in-Err : goal.returns-in-Err
+returns-in-Err c =
     let p = sym c.is_passed_over.ensures ∙ c.if-is_passed_over.false in
     let m = c.make_line-making.ensures in
-    (sym (ap taken_by c.in-NotMade.is) ∙ taken_else _ _ _ p m.answers, bytes_else _ _ _ p m.leaves)
+    (sym (ap taken_by c.in-Err.is) ∙ taken_else _ _ _ p m.answers, bytes_else _ _ _ p m.leaves)

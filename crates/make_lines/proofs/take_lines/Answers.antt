@@ -1,55 +1,64 @@
-use Prim.Native.Nat.{◌*◌}
-use borrow.Rule.Slice.PartMut.{same_len_mid}
-use Rattle.make_lines.proofs.Drafts.{going_room, refused_told}
-use Prim.Native.Nat.{ℕ, ◌-◌}
-use mathlib.Core.Path.{sym, ◌∙◌}
+-- The lines that `split` gives, each with its place: what the loop keeps, a line refused, and the end.
+-- Assumes nothing.
+use Prim.Native.Nat.{ℕ, ◌+◌, ◌<◌}
+use mathlib.Core.Path.{◌≡◌, sym, ap, ◌∙◌}
+use mathlib.Core.List.{List, ◌∷◌}
 use native.Mathlib.Omega.{arith}
-use lib.ListN.{length}
-use Rattle.make_lines.proofs.Pieces.{piece_goes_on}
-use Rattle.make_lines.proofs.Drafts.{going_start, going_long, going_stop, going_next, going_end, added_few}
+use lib.Dec.{eqb}
+use lib.ListN.{length, get_or, drop, length-append}
+use Rattle.std.proofs.Common.{rules, tests}
+use Rattle.std.specs.List.{enumerate_from, slice_split}
+use Rattle.std.proofs.lemmas.Iterator.Consumers.{YieldsList-at, YieldsList-from_enumerate, YieldsList-turn, YieldsList-end}
+use Rattle.std.proofs.lemmas.Iterator.Splits.{YieldsList-from_slice_split}
+use Rattle.rules.specs.Refusals.{refusal}
+use Rattle.make_lines.specs.Lines.{lines_of}
+use Rattle.make_lines.proofs.Drafts.{added_few, all_lines, going_end, going_long, going_next, going_stop, line_next, line_place, refused_told}
+use Rattle.make_lines.proofs.take_lines.Goals.{After-take_line-taken}
 use Rattle.make_lines.proofs.take_lines.Goals as goal
 
-pub loop-at-init : goal.loop-at-init
-loop-at-init c = going_start _ _
-
-pub overflow_mul-to : goal.overflow_mul-to
-overflow_mul-to c = omega (arith, (going_long _ _ _ _ _ _ c.loop-at.invariant).1)
-
-pub slice_bounds-take_line-count : goal.slice_bounds-take_line-count
-slice_bounds-take_line-count c = omega (arith, going_long _ _ _ _ _ _ c.loop-at.invariant)
-
-pub slice_bounds-take_line-start : goal.slice_bounds-take_line-start
-slice_bounds-take_line-start c = going_room _ _ _ _ _ _ c.loop-at.invariant
-
-pub shape_of-out-in-Stopped : goal.shape_of-out-in-Stopped
-shape_of-out-in-Stopped c =
-    same_len_mid {X = ℕ} (81 * c.loop-at.records) (length c.loop-at.out - 81 * c.loop-at.records) c.loop-at.out c.take_line-taken.new.out c.take_line-taken.auto.out ∙ (going_long _ _ _ _ _ _ c.loop-at.invariant).0
-
-pub returns-in-Stopped : goal.returns-in-Stopped
-returns-in-Stopped c =
-    let a = c.args in
-    let f = c.find-end.ensures in
-    refused_told a.values.now a.out.now _ _ c.at.ensures
-    (going_stop a.values.now a.out.now c.loop-at.out c.loop-at.at c.loop-at.line c.loop-at.records c.loop-at.invariant _ f.1 c.without_return-text.result.now c.without_return-text.ensures _ c.take_line-taken.ensures.1 c.in-Stopped.number c.in-Stopped.field (sym c.in-Stopped.is ∙ c.take_line-taken.ensures.0))
+-- this turn's line, and its place
+turn : (p : After-take_line-taken)
+    → let all = enumerate_from 0 (slice_split (λ b. eqb b 10) p.args.values.now) in
+    let k = length p.loop-i.yielded in
+    (k < length all) × ((p.in-Some.i, p.in-Some.line.now) ≡ get_or all k (p.in-Some.i, p.in-Some.line.now))
+turn p =
+    YieldsList-turn
+    (YieldsList-at p.into_iter-i-iterator.ensures.into_iter_gives
+    (YieldsList-from_enumerate
+    (YieldsList-at p.enumerate-i-items.ensures.source (YieldsList-from_slice_split _ _ p.args.values.now p.split.ensures.rest p.split.ensures.done p.split.ensures.closure (λ x r q k. search (rules, tests))))
+    p.enumerate-i-items.ensures.count))
+    p.loop-i.yielded _ p.loop-i.yielded_by p.next.result _ _ p.in-Some.is p.next.ensures.steps
 
 pub overflow_add-records : goal.overflow_add-records
 overflow_add-records c =
+    omega (arith, (going_long _ _ _ _ _ c.loop-i.invariant).1, added_few _ _ c.in-Ok.n (sym c.in-Ok.is ∙ c.take_line-taken.ensures.0))
+
+pub loop-i-preserved : goal.loop-i-preserved
+loop-i-preserved c =
     let a = c.args in
-    omega (arith, (going_long _ _ _ _ _ _ c.loop-at.invariant).1, added_few _ _ c.in-Added.n (sym c.in-Added.is ∙ c.take_line-taken.ensures.0))
+    let t = turn (goal.at.loop-i-preserved c).After-take_line-taken in
+    let k = length c.loop-i.yielded in
+    let q = line_next a.values.now k c.in-Some.i c.in-Some.line.now t.0 t.1 ∙ ap (λ (l : List ℕ). l ∷ drop (k + 1) (lines_of a.values.now)) (sym c.without_return.ensures) in
+    rw length-append (going_next a.values.now a.out.now c.loop-i.out k c.loop-i.records c.loop-i.invariant c.without_return.result.now q _ c.take_line-taken.ensures.1 c.in-Ok.n c.take_line-taken.auto.out (sym c.in-Ok.is ∙ c.take_line-taken.ensures.0))
 
-pub loop-at-smaller : goal.loop-at-smaller
-loop-at-smaller c =
-    let f = c.find-end.ensures in
-    omega (arith, c.past-at.ensures.0, c.past-at.ensures.1, piece_goes_on 10 c.args.values.now c.loop-at.at _ f.1 (omega arith))
-
-pub loop-at-preserved : goal.loop-at-preserved
-loop-at-preserved c =
+pub returns-in-Err : goal.returns-in-Err
+returns-in-Err c =
     let a = c.args in
-    let f = c.find-end.ensures in
-    going_next a.values.now a.out.now c.loop-at.out c.loop-at.at c.loop-at.line c.loop-at.records c.loop-at.invariant _ f.1 c.without_return-text.result.now c.without_return-text.ensures _ c.take_line-taken.ensures.1 c.in-Added.n _ (omega arith) c.past-at.ensures.1 c.past-at.ensures.0 c.take_line-taken.auto.out (sym c.in-Added.is ∙ c.take_line-taken.ensures.0)
-
-pub shape_of-out : goal.shape_of-out
-shape_of-out c = (going_long _ _ _ _ _ _ c.loop-at.invariant).0
+    let t = turn (goal.at.returns-in-Err c).After-take_line-taken in
+    let k = length c.loop-i.yielded in
+    let q = line_next a.values.now k c.in-Some.i c.in-Some.line.now t.0 t.1 ∙ ap (λ (l : List ℕ). l ∷ drop (k + 1) (lines_of a.values.now)) (sym c.without_return.ensures) in
+    refused_told a.values.now a.out.now _ _
+    (c.at.ensures ∙ ap (λ (n : ℕ). refusal c.in-Err.fault.reason 0 (n + 1) c.in-Err.fault.field) (line_place a.values.now k c.in-Some.i c.in-Some.line.now t.0 t.1))
+    (going_stop a.values.now a.out.now c.loop-i.out k c.loop-i.records c.loop-i.invariant c.without_return.result.now q _ c.take_line-taken.ensures.1 c.in-Err.fault.reason c.in-Err.fault.field (sym c.in-Err.is ∙ c.take_line-taken.ensures.0))
 
 pub returns : goal.returns
-returns c = going_end _ _ _ _ _ _ c.loop-at.invariant (omega arith)
+returns c =
+    let a = c.args in
+    going_end a.values.now a.out.now _ _ _ c.loop-i.invariant
+    (all_lines a.values.now _
+    (YieldsList-end
+    (YieldsList-at c.into_iter-i-iterator.ensures.into_iter_gives
+    (YieldsList-from_enumerate
+    (YieldsList-at c.enumerate-i-items.ensures.source (YieldsList-from_slice_split _ _ a.values.now c.split.ensures.rest c.split.ensures.done c.split.ensures.closure (λ x r q k. search (rules, tests))))
+    c.enumerate-i-items.ensures.count))
+    c.loop-i.yielded _ c.loop-i.yielded_by c.next.result _ c.in-None.is c.next.ensures.steps).1)

@@ -1,10 +1,7 @@
-use Prim.Native.Nat.{◌-◌}
-use lib.ListN.{length}
-use Rattle.make_lines.proofs.Drafts.{Going}
 use Rattle.make_lines.proofs.take_lines.Given as goal
+use lib.ListN.{length}
+use Rattle.make_lines.specs.Lines.{lines_of}
+use Rattle.make_lines.proofs.Drafts.{Going}
 
-abbrev pub invariant-loop-at : goal.invariant-loop-at
-invariant-loop-at l = Going l.values l.initial.out l.out l.at l.line l.records
-
-abbrev pub decreases-loop-at : goal.decreases-loop-at
-decreases-loop-at l = length l.values - l.at
+abbrev pub invariant-loop-i : goal.invariant-loop-i
+invariant-loop-i l = Going (lines_of l.values) l.initial.out l.out (length l.yielded) l.records

@@ -1,15 +1,21 @@
--- Fields 1 to 5: the service, a type of it, a number.
+-- Fields 1 and 2, the type, the number.
 -- Assumes nothing.
-use mathlib.Core.List.{[], ◌∷◌, ◌++◌}
-use mathlib.Core.Path.{◌∙◌, ap₂}
-use Rattle.rules.specs.Layouts.{a_type}
-use Rattle.rules.specs.Payments.{is_type}
-use Rattle.make_rules.specs.Pieces.{serviced, numbered}
-use Rattle.make_rules.proofs.Chains.{then_piece, then_row}
+use Rattle.std.proofs.Common.{arith}
+use Rattle.layout.specs.Rows.{first_fault}
 use Rattle.make_rules.proofs.heading.Goals as goal
 
+pub returns-in_err-service : goal.returns-in_err-service
+unfolding first_fault
+returns-in_err-service c = λ f ks. grind (arith, c.service.ensures f ks)
+
+pub returns-in_err-demand : goal.returns-in_err-demand
+unfolding first_fault
+returns-in_err-demand c = λ f ks. grind (arith, c.service.ensures f ks)
+
+pub returns-in_err-transaction_number : goal.returns-in_err-transaction_number
+unfolding first_fault
+returns-in_err-transaction_number c = λ f ks. grind (arith, c.service.ensures f ks, c.transaction_number.ensures f ks)
+
 pub returns : goal.returns
-returns c = λ f ks.
-    let r = c.args.r.now in
-    let listed = c.listed-listed.ensures ∙ ap₂ is_type c.code_at.ensures c.code_at-2.ensures in
-    then_piece f ks r (serviced ++ (a_type r ∷ [])) numbered c.or_else.ensures (then_row f ks r serviced (a_type r) c.demand.ensures (c.service.ensures f ks) listed) (c.number.ensures f ks)
+unfolding first_fault
+returns c = λ f ks. grind (arith, c.service.ensures f ks, c.transaction_number.ensures f ks)

@@ -1,16 +1,18 @@
--- Fields 5 and 6 of a 20.
+-- Two fields of digits.
 -- Assumes nothing.
-use mathlib.Core.Path.{sym, ◌∙◌}
-use Rattle.layout.proofs.Laws.{next, stop, ended, digits_pass, digits_fail}
+use Rattle.std.proofs.Common.{arith}
+use Rattle.fields.specs.Numbers.{number_of}
+use Rattle.layout.specs.Rows.{first_fault}
 use Rattle.make_rules.proofs.key.Goals as goal
 
-pub returns-in_default : goal.returns-in_default
-returns-in_default c = λ f ks. sym (stop f ks _ _ _ (digits_fail _ _ c.number_at.ensures c.in_default.is))
+pub returns-in_err-digits_at : goal.returns-in_err-digits_at
+unfolding first_fault number_of
+returns-in_err-digits_at c = λ f ks. grind arith
 
-pub returns-in_default-number_at : goal.returns-in_default-number_at
-returns-in_default-number_at c = λ f ks.
-    sym (next f ks _ _ _ (digits_pass _ _ c.number_at.ensures _ c.in-Number.is) ∙ stop f ks _ _ _ (digits_fail _ _ c.number_at-2.ensures c.in_default-number_at.is))
+pub returns-in_err-digits_at-2 : goal.returns-in_err-digits_at-2
+unfolding first_fault number_of
+returns-in_err-digits_at-2 c = λ f ks. grind arith
 
 pub returns : goal.returns
-returns c = λ f ks.
-    sym (next f ks _ _ _ (digits_pass _ _ c.number_at.ensures _ c.in-Number.is) ∙ next f ks _ _ _ (digits_pass _ _ c.number_at-2.ensures _ c.in-Number-number_at.is) ∙ ended f ks _)
+unfolding first_fault number_of
+returns c = λ f ks. grind arith

@@ -1,22 +1,18 @@
--- Field 9 in four cases: blank or a KID for service 01, type 12 of another service, and every other type.
+-- Field 9 in three cases: service 01, type 12 of another service, and every other type.
 -- Assumes nothing.
 use mathlib.Core.Path.{sym}
 use borrow.Author.Tests.{ne_eqb}
 use Rattle.rules.specs.Payments.{kid_form}
 use Rattle.make_rules.proofs.kid.Goals as goal
 
-pub returns-then-all_at : goal.returns-then-all_at
-unfolding kid_form
-returns-then-all_at c = simp (sym c.requires.1, c.if-service-eq1.true, sym c.all_at.ensures, c.if-all_at.true)
-
 pub returns-then-service-eq1 : goal.returns-then-service-eq1
 unfolding kid_form
-returns-then-service-eq1 c = simp (c.kid_right_at.ensures, sym c.requires.1, c.if-service-eq1.true, sym c.all_at.ensures, c.if-all_at.false)
+returns-then-service-eq1 c = simp (c.kid_right_at.ensures, c.all_at-blank.ensures, sym c.requires, c.if-service-eq1.true)
 
 pub returns-then-code_at-eq12 : goal.returns-then-code_at-eq12
 unfolding kid_form
-returns-then-code_at-eq12 c = simp (c.kid_at.ensures, sym c.code_at.ensures, sym c.requires.1, ne_eqb _ _ c.if-service-eq1.false, c.if-code_at-eq12.true)
+returns-then-code_at-eq12 c = simp (c.kid_at.ensures, sym c.code_at.ensures, sym c.requires, ne_eqb _ _ c.if-service-eq1.false, c.if-code_at-eq12.true)
 
 pub returns : goal.returns
 unfolding kid_form
-returns c = simp (c.all_at-2.ensures, sym c.code_at.ensures, sym c.requires.1, ne_eqb _ _ c.if-service-eq1.false, ne_eqb _ _ c.if-code_at-eq12.false)
+returns c = simp (c.all_at-blank.ensures, sym c.code_at.ensures, sym c.requires, ne_eqb _ _ c.if-service-eq1.false, ne_eqb _ _ c.if-code_at-eq12.false)

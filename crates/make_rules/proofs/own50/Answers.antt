@@ -1,27 +1,37 @@
 -- Record 50: the service, 16 or 17, the number, a KID, an amount.
 -- Assumes nothing.
+use Rattle.std.proofs.Common.{arith}
 use mathlib.Core.List.{[], ◌∷◌, ◌++◌}
-use mathlib.Core.Path.{sym, ◌∙◌, ap₂}
-use mathlib.Core.Bool.{◌||◌}
-use Rattle.fields.specs.Bytes.{part}
-use Rattle.layout.specs.Rules.{listed}
-use Rattle.layout.specs.Rows.{at}
-use Rattle.layout.proofs.Laws.{two_listed}
+use mathlib.Core.Path.{◌≡◌}
+use Rattle.layout.specs.Rows.{at, first_fault}
+use Rattle.layout.specs.Rules.{listed, one_of}
+use Rattle.layout.proofs.Laws.{goes_on}
+use Rattle.rules.specs.Alone.{own_table, own_rows}
 use Rattle.rules.specs.Codes.{service_code}
 use Rattle.rules.specs.Payments.{kid_of}
-use Rattle.make_rules.specs.Pieces.{serviced, numbered, specified}
-use Rattle.make_rules.proofs.Chains.{then_piece, then_row}
-use Rattle.rules.specs.Alone.{own_table, own_rows}
+use Rattle.make_rules.specs.Pieces.{numbered, serviced, specified}
 use Rattle.make_rules.proofs.own50.Goals as goal
 
+pub returns-in_err-service : goal.returns-in_err-service
+unfolding own_table own_rows first_fault one_of
+returns-in_err-service c = λ f ks. grind (arith, c.service.ensures f ks)
+
+pub returns-in_err-demand : goal.returns-in_err-demand
+unfolding own_table own_rows first_fault one_of
+returns-in_err-demand c = λ f ks. grind (arith, c.service.ensures f ks)
+
+pub returns-in_err-transaction_number : goal.returns-in_err-transaction_number
+unfolding own_table own_rows first_fault one_of
+returns-in_err-transaction_number c = λ f ks. grind (arith, c.service.ensures f ks, c.transaction_number.ensures f ks)
+
+pub returns-in_err-demand-2 : goal.returns-in_err-demand-2
+unfolding own_table own_rows first_fault one_of
+returns-in_err-demand-2 c = λ f ks. grind (arith, c.service.ensures f ks, c.transaction_number.ensures f ks)
+
 pub returns : goal.returns
-unfolding own_table own_rows
+unfolding own_table own_rows first_fault one_of
 returns c = λ f ks.
     let r = c.args.r.now in
-    let type = at 3 5 6 (listed ("16" ∷ "17" ∷ [])) in
-    let kid = at 6 16 40 (kid_of (service_code r)) in
-    let told = ap₂ ◌||◌ c.same_at.ensures c.same_at-2.ensures ∙ sym (two_listed "16" "17" (part 5 6 r)) in
-    let x1 = then_row f ks r serviced type c.demand.ensures (c.service.ensures f ks) told in
-    let x2 = then_piece f ks r (serviced ++ (type ∷ [])) numbered c.or_else.ensures x1 (c.number.ensures f ks) in
-    let x3 = then_row f ks r ((serviced ++ (type ∷ [])) ++ numbered) kid c.demand-2.ensures x2 c.kid_sound.ensures in
-    then_piece f ks r (((serviced ++ (type ∷ [])) ++ numbered) ++ (kid ∷ [])) specified c.or_else-2.ensures x3 (c.specifying.ensures f ks)
+    let behind = at 3 5 6 (listed ("16" ∷ "17" ∷ [])) ∷ numbered ++ (at 6 16 40 (kid_of (service_code r)) ∷ specified) in
+    let rest : c.specifying.result ≡ first_fault f ks r behind = grind (arith, c.transaction_number.ensures f ks, c.specifying.ensures f ks) in
+    goes_on f ks r serviced behind (c.service.ensures f ks) c.in_ok-service.was rest

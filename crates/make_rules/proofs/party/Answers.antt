@@ -22,13 +22,13 @@ excused p =
 
 pub returns-then-referred : goal.returns-then-referred
 returns-then-referred c = λ f ks.
-    sym (reference_sound f ks c.args.r.now c.args.service c.requires.1 (sym c.referred.ensures ∙ c.if-referred.true))
+    sym (reference_sound f ks c.args.r.now c.args.service c.requires (sym c.referred.ensures ∙ c.if-referred.true))
 
 pub returns-then-service-code_at : goal.returns-then-service-code_at
 returns-then-service-code_at c = λ f ks.
-    sym (type_sound f ks c.args.r.now c.args.service c.requires.1 (sym (excused (goal.at.returns-then-service-code_at c).After-is_number) ∙ c.if-service-code_at.true))
+    sym (type_sound f ks c.args.r.now c.args.service c.requires (sym (excused (goal.at.returns-then-service-code_at c).After-is_number) ∙ c.if-service-code_at.true))
 
 pub returns : goal.returns
 returns c = λ f ks.
     c.account_found.ensures ∙ ap (λ (x : Account). account_found x 7) c.account_at-account.ensures
-    ∙ sym (account_decides f ks c.args.r.now c.args.service c.requires.1 (sym c.referred.ensures ∙ c.if-referred.false) (sym (excused (goal.at.returns c).After-is_number) ∙ c.if-service-code_at.false))
+    ∙ sym (account_decides f ks c.args.r.now c.args.service c.requires (sym c.referred.ensures ∙ c.if-referred.false) (sym (excused (goal.at.returns c).After-is_number) ∙ c.if-service-code_at.false))

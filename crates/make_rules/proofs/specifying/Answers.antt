@@ -1,13 +1,14 @@
--- Fields 7 and 8 of a 50.
+-- Digits, then zeros.
 -- Assumes nothing.
-use mathlib.Core.Path.{sym, ◌∙◌}
-use Rattle.layout.proofs.Laws.{next, stop, demands, digits_pass, digits_fail}
+use Rattle.std.proofs.Common.{arith}
+use Rattle.fields.specs.Numbers.{number_of}
+use Rattle.layout.specs.Rows.{first_fault}
 use Rattle.make_rules.proofs.specifying.Goals as goal
 
-pub returns-in_default : goal.returns-in_default
-returns-in_default c = λ f ks. sym (stop f ks _ _ _ (digits_fail _ _ c.number_at.ensures c.in_default.is))
+pub returns-in_err-digits_at : goal.returns-in_err-digits_at
+unfolding first_fault number_of
+returns-in_err-digits_at c = λ f ks. grind arith
 
 pub returns : goal.returns
-returns c = λ f ks.
-    simp (c.demand.ensures, c.zeros_from.ensures)
-    (sym (next f ks _ _ _ (digits_pass _ _ c.number_at.ensures _ c.in-Number.is) ∙ demands f ks _ _))
+unfolding first_fault number_of
+returns c = λ f ks. grind arith

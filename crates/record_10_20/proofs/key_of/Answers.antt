@@ -1,20 +1,16 @@
 -- The key of two digit fields is that of the record.
 -- Assumes nothing.
-use mathlib.Core.Path.{sym, ◌∙◌}
-use mathlib.Core.Bool.{false≢true}
-use Rattle.layout.proofs.Laws.{digits_fail}
-use Rattle.record_10_20.proofs.Laws.{key_fits, key_read}
+use Rattle.std.proofs.Common.{arith, sym, ◌∙◌}
+use Rattle.fields.proofs.Width.{below_at}
+use Rattle.record_10_20.proofs.Laws.{or_zero_below, or_zero_value}
 use Rattle.record_10_20.proofs.key_of.Goals as goal
 
-pub returns-in_default : goal.returns-in_default
-returns-in_default c = λ p q. absurd (false≢true (sym (digits_fail _ _ c.number_at.ensures c.in_default.is) ∙ p))
-
-pub returns-in_default-number_at : goal.returns-in_default-number_at
-returns-in_default-number_at c = λ p q. absurd (false≢true (sym (digits_fail _ _ c.number_at-2.ensures c.in_default-number_at.is) ∙ q))
-
 pub joined-requires : goal.joined-requires
-joined-requires c = key_fits c.args.r.now _ _ (sym c.number_at.ensures ∙ c.in-Number.is) (sym c.number_at-2.ensures ∙ c.in-Number-number_at.is) c.requires
+joined-requires c =
+    let r = c.args.r.now in
+    let a = or_zero_below c.number_at.result 1000000000 (omega arith) (λ n e. below_at 9 17 r n (omega arith) (sym c.number_at.ensures ∙ e)) in
+    let n = or_zero_below c.number_at-2.result 10000000 (omega arith) (λ n e. below_at 18 24 r n (omega arith) (sym c.number_at-2.ensures ∙ e)) in
+    (omega (arith, c.unwrap_or-agreement.ensures), omega (arith, c.unwrap_or-number.ensures))
 
 pub returns : goal.returns
-returns c = λ _ _.
-    c.joined.ensures ∙ key_read c.args.r.now _ _ (sym c.number_at.ensures ∙ c.in-Number.is) (sym c.number_at-2.ensures ∙ c.in-Number-number_at.is)
+returns c = λ p q. let a = or_zero_value _ _ c.number_at.ensures p in let n = or_zero_value _ _ c.number_at-2.ensures q in grind (arith, a, n)

@@ -1,18 +1,9 @@
-use Prim.Native.Nat.{zero-le}
-use mathlib.Core.Path.{refl}
-use native.Mathlib.Omega.{arith}
-use Rattle.record_10_20.proofs.Laws.{keys_next, keys_end}
+use Rattle.std.proofs.Common.{arith}
+use Rattle.record_10_20.proofs.Laws.{member_next, member_end}
 use Rattle.record_10_20.proofs.seen.Goals as goal
 
-pub loop-i-init : goal.loop-i-init
-loop-i-init c = (zero-le, refl)
-
-pub loop-i-preserved : goal.loop-i-preserved
-loop-i-preserved c =
-    let a = c.args in
-    (omega arith, keys_next a.key a.keys.now a.used c.loop-i.i c.requires c.loop-i.found _ c.loop-i.invariant.1 c.loop-i-test.true)
+pub loop-other-preserved : goal.loop-other-preserved
+loop-other-preserved c = grind (arith, member_next c.args.key c.args.keys.now c.loop-other.other-index, c.loop-other.invariant)
 
 pub returns : goal.returns
-returns c =
-    let a = c.args in
-    keys_end a.key a.keys.now a.used c.loop-i.i c.requires c.loop-i.found _ c.loop-i.invariant.1 (omega arith)
+returns c = grind (arith, member_end c.args.key c.args.keys.now c.loop-other.other-index, c.loop-other.invariant)

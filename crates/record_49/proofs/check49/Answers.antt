@@ -1,24 +1,18 @@
 -- Record 49: a fault in what it repeats ends it, and else its own fields say what it is and where it stands.
 -- Assumes nothing.
-use mathlib.Core.Path.{refl, sym, ◌∙◌}
-use Rattle.layout.proofs.Laws.{ends_here, goes_on}
+use Rattle.std.proofs.Common.{◌∙◌, sym, arith}
 use Rattle.rules.specs.Layouts.{repeats, fields49}
-use Rattle.record_49.proofs.Pieces.{at_fault}
+use Rattle.record_shared.proofs.Pieces.{past, ends}
 use Rattle.record_49.proofs.check49.Goals as goal
 
-pub returns-in-Fault : goal.returns-in-Fault
-returns-in-Fault c =
+pub returns-in_err-repeating : goal.returns-in_err-repeating
+returns-in_err-repeating c = λ f ks.
     let s = c.args in
-    let fault = c.in-Fault.is in
-    at_fault _ _ _ c.faulty.result c.faulty.ensures
-    (λ f ks. sym fault ∙ ends_here f ks s.r.now (repeats s.a s.r.now) (fields49 s.a.places s.r.now) (c.repeating-head.ensures s.a refl refl refl f ks) fault)
+    let r = s.r.now in
+    grind (arith, ends f ks r (repeats s.a r) (fields49 s.a.places r) (sym (c.repeating.ensures f ks) ∙ c.in_err-repeating.was))
 
 pub returns : goal.returns
-returns c =
+returns c = λ f ks.
     let s = c.args in
-    let own = c.own_fields.ensures in
-    record {
-      finding = λ f ks.
-          goes_on f ks s.r.now (repeats s.a s.r.now) (fields49 s.a.places s.r.now) (c.repeating-head.ensures s.a refl refl refl f ks) c.in_default.is (own.finding f ks);
-      places = own.places;
-    }
+    let r = s.r.now in
+    grind (arith, past f ks r (repeats s.a r) (fields49 s.a.places r) (sym (c.repeating.ensures f ks) ∙ c.in_ok-repeating.was), c.own_fields.ensures f ks)

@@ -1,57 +1,26 @@
-use Prim.Native.Nat.{ℕ}
-use mathlib.Core.Path.{◌≡◌, ap, sym, ◌∙◌}
-use mathlib.Core.Bool.{◌&&◌}
-use mathlib.Core.List.{List}
+-- Each of the three tests holds its rows.
+-- Assumes nothing.
+use Rattle.std.proofs.Common.{arith, ◌&&◌}
 use lib.Dec.{eqb}
-use lib.ListN.{length}
-use native.Mathlib.Omega.{arith}
-use borrow.Author.Tests.{eq-eqb, eqb-true}
-use Rattle.fields.specs.Bytes.{Inside, part}
-use Rattle.fields.specs.Numbers.{value}
 use Rattle.fields.proofs.Tests.{and_left, and_right}
-use Rattle.fields.proofs.Width.{below_at}
-use Rattle.figures.specs.declared.counts.TransactionNumber.{TransactionNumber}
-use Rattle.layout.specs.Rows.{AllHold}
-use Rattle.layout.proofs.Laws.{digits_pass, value_is}
-use Rattle.rules.specs.Codes.{type_code}
-use Rattle.record_shared.proofs.Belong.{belongs_hold}
+use Rattle.layout.specs.Rows.{AllHold, first_fault}
 use Rattle.record_shared.proofs.repeats.Goals as goal
 
-inside : (r : List ℕ) → length r ≡ 81 → Inside 9 15 r
-inside r h = omega arith
-
-pub returns-in_default : goal.returns-in_default
-returns-in_default c = λ e. let z : ◌≡◌ {A = ℕ} 0 1 = cc in absurd (omega arith)
-
-pub numbered-requires : goal.numbered-requires
-numbered-requires c = below_at 9 15 c.args.r.now _ (inside c.args.r.now c.requires) (sym c.number_at.ensures ∙ c.in-Number.is)
-
 pub returns : goal.returns
-unfolding AllHold
-returns c = λ t a es ec en f ks.
-    let s = c.args in
-    let read = c.number_at.ensures in
+unfolding AllHold first_fault
+returns c = λ t f ks.
     let here = c.belongs_to.result in
-    let same = eqb c.code_at.result s.code in
-    let h = and_left (here && same) c.equals.result t in
-    let equal = sym c.equals.ensures ∙ and_right (here && same) c.equals.result t in
-    let top = belongs_hold s.service s.r.now (c.belongs_to.ensures (and_left here same h)) a es f ks in (
-      top.0,
+    let same = eqb c.code_at.result c.args.a.now.code in
+    let h = and_left (here && same) c.eq.result t in
+    let own = c.belongs_to.ensures (and_left here same h) in
+    let same-type = and_right here same h in
+    let same-number = and_right (here && same) c.eq.result t in (
+      own.format,
       (
-        top.1.0,
+        grind (arith, own.service),
         (
-          eq-eqb (type_code s.r.now) a.code (sym c.code_at.ensures ∙ eqb-true c.code_at.result s.code (and_right here same h) ∙ sym ec),
-          (
-            digits_pass _ _ read _ c.in-Number.is,
-            (
-              eq-eqb (value (part 9 15 s.r.now)) a.number.0
-                  (value_is _ _ read _ c.in-Number.is
-                  ∙ sym (ap (λ (m : TransactionNumber). m.0) c.numbered.ensures)
-                  ∙ eqb-true c.numbered.result.0 s.number.0 equal
-                  ∙ ap (λ (m : TransactionNumber). m.0) (sym en)),
-              tt,
-            ),
-          ),
+          grind (arith, same-type, c.code_at.ensures),
+          (grind (arith, c.eq.ensures, c.transaction_number.ensures f ks, same-number), (grind (arith, c.eq.ensures, c.transaction_number.ensures f ks, same-number), tt)),
         ),
       ),
     )

@@ -5,14 +5,11 @@ use Rattle.run_figures.proofs.sum_of.Goals as goal
 pub loop-j-init : goal.loop-j-init
 loop-j-init c = adding_none _ _ _ _ c.none-sum.ensures
 
-pub figures_at-own-requires : goal.figures_at-own-requires
-figures_at-own-requires c = c.requires.each _ c.loop-j.invariant.above (omega arith)
-
 pub plus-sum-requires : goal.plus-sum-requires
-plus-sum-requires c = has_room _ _ _ _ _ c.loop-j.invariant (omega arith) _ c.figures_at-own.ensures c.requires
+plus-sum-requires c = has_room _ _ _ _ _ c.loop-j.invariant (omega arith) _ c.figures_at.ensures c.requires
 
 pub loop-j-preserved : goal.loop-j-preserved
-loop-j-preserved c = adding_next _ _ _ _ _ c.loop-j.invariant (omega arith) _ c.figures_at-own.ensures _ c.plus-sum.ensures
+loop-j-preserved c = adding_next _ _ _ _ _ c.loop-j.invariant (omega arith) _ c.figures_at.ensures _ c.plus-sum.ensures
 
 pub returns : goal.returns
 returns c = added_all _ _ _ _ _ c.loop-j.invariant (omega arith)

@@ -1,11 +1,7 @@
-use Prim.Native.Nat.{◌-◌}
 use mathlib.Core.Path.{◌≡◌}
 use lib.ListN.{length}
 use Rattle.run_loop.proofs.Loop.{At}
 use Rattle.run_loop.proofs.run_over.Given as goal
 
 abbrev pub invariant-loop-k : goal.invariant-loop-k
-invariant-loop-k l = At l.mode l.w l.bytes l.count l.st l.keys l.figures l.k × (length l.figures ≡ length l.initial.figures)
-
-abbrev pub decreases-loop-k : goal.decreases-loop-k
-decreases-loop-k l = l.count - l.k
+invariant-loop-k l = At l.mode l.w l.records l.st l.keys l.figures l.k × (length l.figures ≡ length l.initial.figures)

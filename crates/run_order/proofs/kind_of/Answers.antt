@@ -19,6 +19,3 @@ returns-then-same_at c = of-text _ (text "31") (sym c.same_at.ensures ∙ c.if-s
 pub returns-then-same_at-2 : goal.returns-then-same_at-2
 unfolding kind_for code_of every value_from
 returns-then-same_at-2 c = of-text _ (text "30") (sym c.same_at-2.ensures ∙ c.if-same_at-2.true)
-
-pub returns : goal.returns
-returns c = c.kind_for.ensures ∙ ap kind_for c.code_at.ensures

@@ -1,6 +1,4 @@
-use Prim.Native.Nat.{ℕ}
-use mathlib.Core.Path.{ap, ◌∙◌}
-use lib.Dec.{eqb}
+use mathlib.Core.Path.{◌∙◌}
 use Rattle.rules.specs.Order.{may_end}
 use Rattle.rules.specs.declared.Kind.TheVariants.{R88}
 use Rattle.rules.specs.declared.Mode.TheVariants.{File}
@@ -9,7 +7,7 @@ use Rattle.run_order.proofs.may_end.Goals as goal
 
 pub returns-in-File : goal.returns-in-File
 unfolding may_end
-returns-in-File c = rw c.in-File.is (ap (λ (n : ℕ). eqb n 89) c.number_of.ensures ∙ end_is c.args.a.last)
+returns-in-File c = rw c.in-File.is (c.eq.ensures ∙ end_is c.args.a.last)
 
 pub returns-in-Draft : goal.returns-in-Draft
 unfolding may_end

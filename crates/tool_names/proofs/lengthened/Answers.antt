@@ -1,13 +1,7 @@
-use mathlib.Core.Path.{refl}
-use native.Mathlib.Omega.{arith}
-use Rattle.tool_names.proofs.Names.{no_room, named}
+-- The name and its ending, in their places.
+-- Assumes nothing.
+use Rattle.tool_names.proofs.Names.{whole_is}
 use Rattle.tool_names.proofs.lengthened.Goals as goal
 
-pub returns-then-room-len : goal.returns-then-room-len
-returns-then-room-len c = ((omega arith, refl), no_room _ _ _ (omega arith))
-
-pub returns-then-room-len-2 : goal.returns-then-room-len-2
-returns-then-room-len-2 c = ((omega arith, refl), no_room _ _ _ (omega arith))
-
 pub returns : goal.returns
-returns c = named c.args.name.now c.args.ending.now c.args.buffer.now _ _ (omega arith) c.copy_to.ensures c.copy_to-2.ensures
+returns c = whole_is _ c.args.name.now c.args.ending.now _ _ _ c.copy_from_slice.ensures.after c.copy_from_slice-2.ensures.after c.in_ok-whole.ensures.lookup.0.1

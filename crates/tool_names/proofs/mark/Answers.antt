@@ -1,8 +1,8 @@
-use mathlib.Core.Path.{refl}
-use Rattle.fields.specs.Bytes.{every}
-use Rattle.fields.proofs.Tests.{and_both}
+use Prim.Native.Nat.{ℕ, ◌<◌}
+use mathlib.Core.Path.{subst}
+use Rattle.std.proofs.Common.{rules}
+use Rattle.tool_names.proofs.Names.{every_of_each}
 use Rattle.tool_names.proofs.mark.Goals as goal
 
 pub returns : goal.returns
-unfolding every
-returns g c = and_both _ _ c.digit.ensures (and_both _ _ c.digit-2.ensures (and_both _ _ c.digit-3.ensures (and_both _ _ c.digit-4.ensures (and_both _ _ c.digit-5.ensures (and_both _ _ c.digit-6.ensures (and_both _ _ c.digit-7.ensures refl))))))
+returns g c = every_of_each _ _ (λ i l. let h = c.map.ensures.items.at i 0 0 (subst (λ (n : ℕ). i < n) c.map.ensures.items.long l) in search rules)

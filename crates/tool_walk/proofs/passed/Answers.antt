@@ -6,6 +6,3 @@ with_record-requires c = room_record _ c.requires.1
 
 pub with_record-requires-2 : goal.with_record-requires-2
 with_record-requires-2 c = room_record _ c.requires.0
-
-pub returns : goal.returns
-returns c = simp (c.with_record.ensures, c.with_record-2.ensures)

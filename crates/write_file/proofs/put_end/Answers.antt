@@ -1,6 +1,5 @@
 use mathlib.Core.Path.{sym}
 use native.Mathlib.Omega.{arith}
-use lib.ListN.{length}
 use Rattle.operations.specs.Ends.{end_record}
 use Rattle.field_texts.proofs.Wrote.{at_first, behind, told}
 use Rattle.write_fields.specs.Parts.{head_bytes}

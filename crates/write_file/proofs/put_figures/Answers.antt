@@ -10,7 +10,8 @@ put_byte-requires c =
 pub returns : goal.returns
 returns c =
     let t = c.args.t in
-    let w2 = one_number _ _ (one_number _ _ (nothing c.args.out.now) c.put_digits.ensures) c.put_digits-2.ensures in
+    let w1 = one_number_told _ c.from.ensures (nothing c.args.out.now) c.put_digits.ensures in
+    let w2 = one_number_told _ c.from-2.ensures w1 c.put_digits-2.ensures in
     let w3 = one_number _ _ w2 c.put_digits-3.ensures in
     let w4 = one_number_told _ c.ddmmyy_of.ensures w3 c.put_digits-4.ensures in
     let w5 = one_number_told _ c.ddmmyy_of-2.ensures w4 c.put_digits-5.ensures in

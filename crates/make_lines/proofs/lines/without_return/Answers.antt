@@ -1,12 +1,10 @@
-use native.Mathlib.Omega.{arith}
-use Rattle.make_lines.proofs.Pieces.{return_none, return_off, return_not}
+-- With a return at the end, or without.
+-- Assumes nothing.
+use mathlib.Core.List.{[], ◌∷◌}
+use Rattle.std.proofs.lemmas.Bool.Decides.{Decides-eqb}
+use Rattle.std.proofs.lemmas.Slice.Eq.{strip_suffix_is}
+use Rattle.make_lines.proofs.Pieces.{return_off}
 use Rattle.make_lines.proofs.lines.without_return.Goals as goal
 
-pub returns-then-n-eq0 : goal.returns-then-n-eq0
-returns-then-n-eq0 c = return_none _ c.if-n-eq0.true
-
-pub returns-then-line-last-eq13 : goal.returns-then-line-last-eq13
-returns-then-line-last-eq13 c = return_off _ _ (omega arith) c.if-line-last-eq13.true
-
 pub returns : goal.returns
-returns c = return_not _ _ (omega arith) c.if-line-last-eq13.false
+returns c = return_off c.args.line _ (strip_suffix_is Decides-eqb c.args.line.now (13 ∷ []) _ c.strip_suffix.ensures.cases) c.unwrap_or.ensures

@@ -1,3 +1,5 @@
+-- Record 10 from the values of a line, numbers up to the cap.
+-- Assumes nothing.
 use mathlib.Core.Path.{refl}
 use native.Mathlib.Omega.{arith}
 use Rattle.rules.specs.declared.Kind.TheVariants.{R10}
@@ -7,7 +9,7 @@ use Rattle.make_lines.proofs.records.made10.Goals as goal
 pub returns : goal.returns
 returns c =
     let s = c.args.line.now in
-    same_promise R10 c.make10.ensures
+    same_promise R10 c.make.ensures
     (also (same_put refl)
     (also (same_put refl)
     (also (same_put refl)

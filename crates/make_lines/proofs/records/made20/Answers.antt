@@ -1,3 +1,5 @@
+-- Record 20 from the values of a line, numbers up to the cap.
+-- Assumes nothing.
 use mathlib.Core.Path.{refl}
 use native.Mathlib.Omega.{arith}
 use Rattle.rules.specs.declared.Kind.TheVariants.{R20}
@@ -7,7 +9,7 @@ use Rattle.make_lines.proofs.records.made20.Goals as goal
 pub returns : goal.returns
 returns c =
     let s = c.args.line.now in
-    same_promise R20 c.make20.ensures
+    same_promise R20 c.make.ensures
     (also (same_put refl)
     (also (given_number s 0 2 2 _ (omega arith) c.number_at-service.ensures)
     (also (same_put refl)

@@ -1,9 +1,7 @@
 -- The record types in turn.
 -- Assumes nothing.
-use mathlib.Core.Path.{sym, ap, ◌∙◌}
-use mathlib.Core.Bool.{false≢true}
 use Rattle.rules.specs.declared.Kind.TheVariants.{R10, R20, R30, R31, R40, R41, R49, R50}
-use Rattle.make_lines.specs.Draft.{is_given, given_in}
+use Rattle.make_lines.specs.Draft.{given_in}
 use Rattle.make_lines.proofs.Made.{of_kind}
 use Rattle.make_lines.proofs.records.made_kind.Goals as goal
 
@@ -46,12 +44,3 @@ pub returns-in-R50 : goal.returns-in-R50
 returns-in-R50 c =
     let a = c.args in
     of_kind a.kind R50 (given_in a.line.now) c.in-R50.is c.made50.ensures
-
-pub returns-in-R88 : goal.returns-in-R88
-returns-in-R88 c = absurd (false≢true (sym (ap is_given c.in-R88.is) ∙ c.requires))
-
-pub returns-in-R89 : goal.returns-in-R89
-returns-in-R89 c = absurd (false≢true (sym (ap is_given c.in-R89.is) ∙ c.requires))
-
-pub returns-in-Other : goal.returns-in-Other
-returns-in-Other c = absurd (false≢true (sym (ap is_given c.in-Other.is) ∙ c.requires))

@@ -1,22 +1,26 @@
-use Rattle.operations.specs.declared.Making.{Making}
-use Rattle.operations.specs.declared.Making.TheVariants.{NotMade}
-use Rattle.make_lines.specs.Draft.{LinePromise}
-use mathlib.Core.Path.{subst}
-use mathlib.Core.Path.{sym, ap, ◌∙◌}
+-- What is found before, or the record.
+-- Assumes nothing.
+use mathlib.Core.Path.{◌≡◌, sym, ap, ◌∙◌}
+use Rattle.std.proofs.Common.{arith}
+use Rattle.layout.specs.Findings.{Finding, sound}
+use Rattle.operations.specs.Making.{on_sound, recorded}
+use Rattle.make_record.proofs.Promised.{goes_on}
+use Rattle.make_lines.specs.Draft.{fault_in, given_in}
 use Rattle.make_lines.proofs.Made.{sound_given, line_refused, line_made}
+use Rattle.make_lines.proofs.records.make_line.Goals.{In_ok-refusing}
 use Rattle.make_lines.proofs.records.make_line.Goals as goal
 
+-- nothing is found
+none_found : (p : In_ok-refusing) → fault_in p.kind_in-kind.result (given_in p.args.line.now) ≡ sound
+none_found p = goes_on _ _ (ap (λ (f : Finding). on_sound f recorded) (sym p.fault_in.ensures) ∙ sym p.refusing.ensures ∙ p.in_ok-refusing.was)
+
+pub returns-in_err-refusing : goal.returns-in_err-refusing
+returns-in_err-refusing c =
+    line_refused c.args.line.now c.args.out.now _ c.kind_in-kind.ensures
+    (ap (λ (f : Finding). on_sound f recorded) (sym c.fault_in.ensures) ∙ sym c.refusing.ensures ∙ c.in_err-refusing.was) (grind arith)
+
 pub made_kind-requires : goal.made_kind-requires
-made_kind-requires c = sound_given _ _ (sym c.fault_in-found.ensures ∙ c.in-Sound.is)
+made_kind-requires c = sound_given _ _ (none_found (goal.at.made_kind-requires c).In_ok-refusing)
 
-pub returns-in-Fault : goal.returns-in-Fault
-returns-in-Fault c =
-    let a = c.args in
-    subst (λ (x : Making). LinePromise a.line.now a.out.now x a.out.now) (sym (ap NotMade c.at.ensures))
-    (line_refused a.line.now a.out.now _ c.kind_in-kind.ensures c.in-Fault.number c.in-Fault.field (sym c.fault_in-found.ensures ∙ c.in-Fault.is))
-
-pub returns-in-Sound : goal.returns-in-Sound
-returns-in-Sound c =
-    let a = c.args in
-    line_made a.line.now a.out.now _ c.kind_in-kind.ensures
-    (sym c.fault_in-found.ensures ∙ c.in-Sound.is) c.made_kind.ensures
+pub returns : goal.returns
+returns c = line_made c.args.line.now c.args.out.now _ c.kind_in-kind.ensures (none_found (goal.at.returns c).In_ok-refusing) c.made_kind.ensures

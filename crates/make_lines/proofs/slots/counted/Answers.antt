@@ -1,33 +1,40 @@
-use Rattle.layout.specs.declared.Finding.TheVariants.{Fault}
-use Prim.Native.Nat.{◌-◌}
-use mathlib.Core.Path.{refl, sym, ap, ◌∙◌}
-use native.Mathlib.Omega.{arith}
-use Rattle.make_lines.specs.Draft.{slots_of, field_of}
-use Rattle.make_lines.proofs.Counting.{count_missing, count_next, count_end}
+-- A value less than is asked for, or what is more than that is empty.
+-- Assumes nothing.
+use Prim.Native.Nat.{ℕ, ◌+◌}
+use Rattle.std.specs.Prelude.{Err}
+use Rattle.layout.specs.Findings.{fault}
+use Rattle.layout.specs.declared.Reason.TheVariants.{WrongForm}
+use lib.Dec.{eqb}
+use lib.ListN.{length}
+use mathlib.Core.Path.{◌≡◌, ap, ◌∙◌}
+use Rattle.std.proofs.Common.{rules, tests}
+use Rattle.std.specs.List.{slice_split}
+use Rattle.std.proofs.lemmas.Iterator.Adapters.{YieldsList-from_skip}
+use Rattle.std.proofs.lemmas.Iterator.Consumers.{YieldsList-at, count_from_yields_List}
+use Rattle.std.proofs.lemmas.Iterator.Search.{all_from_yields_List}
+use Rattle.std.proofs.lemmas.Iterator.Splits.{YieldsList-from_slice_split}
+use Rattle.make_lines.proofs.Counting.{count_missing, count_end}
+use Rattle.make_lines.proofs.slots.counted.Goals.{After-count-given}
 use Rattle.make_lines.proofs.slots.counted.Goals as goal
 
-pub loop-i-init : goal.loop-i-init
-loop-i-init c = (omega arith, omega arith, refl)
+-- how many pieces there are
+pieces : (p : After-count-given) → p.count-given.result ≡ length (slice_split (λ b. eqb b 59) p.args.line.now)
+pieces p = count_from_yields_List p.split.result _ p.count-given.ensures.ran (YieldsList-from_slice_split _ _ p.args.line.now p.split.ensures.rest p.split.ensures.done p.split.ensures.closure (λ x r q k. search (rules, tests)))
 
-pub returns-then-end-line : goal.returns-then-end-line
-returns-then-end-line c =
+pub returns-in-Some : goal.returns-in-Some
+returns-in-Some c =
     let a = c.args in
-    ap (Fault 8) (c.field_of.ensures ∙ ap field_of c.slot_at.ensures)
-    ∙ sym (count_missing (slots_of a.kind a.service) a.line.now c.loop-i.i c.loop-i.at _ c.find-end.ensures.1 c.loop-i.invariant.0 (omega (arith, c.slots_in-n.ensures a.service)) c.if-end-line.true)
-    ∙ c.loop-i.invariant.2
-
-pub loop-i-preserved : goal.loop-i-preserved
-loop-i-preserved c =
-    let a = c.args in (
-      omega (arith, c.find-end.ensures.0, c.if-end-line.false),
-      omega arith,
-      sym (count_next (slots_of a.kind a.service) a.line.now c.loop-i.i c.loop-i.at _ c.find-end.ensures.1 c.loop-i.invariant.0 (omega (arith, c.slots_in-n.ensures a.service)) (omega (arith, c.find-end.ensures.0, c.if-end-line.false)))
-          ∙ c.loop-i.invariant.2,
-    )
+    let found = c.in-Some.ensures.lookup in
+    ap (λ (k : ℕ). Err (fault WrongForm k)) c.field.ensures
+    ∙ count_missing a.line.now _ (pieces (goal.at.returns-in-Some c).After-count-given) a.slots.now c.in-Some.missing.now found.3.0 found.1
 
 pub returns : goal.returns
 returns c =
     let a = c.args in
     c.demand.ensures
-    ∙ count_end (slots_of a.kind a.service) a.line.now c.loop-i.i c.loop-i.at _ c.find.ensures.1 c.loop-i.invariant.0 (omega (arith, c.slots_in-n.ensures a.service)) _ _ c.past-more.ensures.1 c.only_semicolons.ensures
-    ∙ c.loop-i.invariant.2
+    ∙ count_end a.line.now _ (pieces (goal.at.returns c).After-count-given) a.slots.now c.in_default.ensures.lookup.3 c.all.result
+    (all_from_yields_List (λ v. eqb (length v) 0) _ _ _ c.all.ensures.ran
+    (YieldsList-from_skip (length a.slots.now + 1)
+    (YieldsList-at c.skip-more.ensures.source (YieldsList-from_slice_split _ _ a.line.now c.split-2.ensures.rest c.split-2.ensures.done c.split-2.ensures.closure (λ x r q k. search (rules, tests))))
+    c.skip-more.ensures.count)
+    (λ x b q k. search (rules, tests)))

@@ -1,11 +1,13 @@
-use mathlib.Core.Path.{sym, ◌∙◌}
+-- The record type, then the values.
+-- Assumes nothing.
+use Rattle.std.proofs.Common.{arith}
 use Rattle.make_lines.specs.Draft.{fault_in}
 use Rattle.make_lines.proofs.slots.fault_in.Goals as goal
 
-pub returns-then-is_given : goal.returns-then-is_given
+pub returns-in_err-demand : goal.returns-in_err-demand
 unfolding fault_in
-returns-then-is_given c = c.slots_found.ensures ∙ simp (sym c.is_given.ensures ∙ c.if-is_given.true)
+returns-in_err-demand c = grind arith
 
 pub returns : goal.returns
 unfolding fault_in
-returns c = simp (sym c.is_given.ensures ∙ c.if-is_given.false)
+returns c = grind arith

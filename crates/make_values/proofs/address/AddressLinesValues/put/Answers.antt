@@ -1,0 +1,16 @@
+-- The fields of a 41, one behind the other.
+-- Assumes nothing.
+use Rattle.write_fields.proofs.Places.{one_byte, one_left, one_number}
+use Rattle.make_values.proofs.Laws.{all_put, is_41, opened}
+use Rattle.make_values.proofs.address.AddressLinesValues.put.Goals as goal
+
+pub returns : goal.returns
+returns c =
+    let a = c.args.self.now in
+    let w1 = opened a.opening.service a.opening.code 41 a.opening.number c.args.r.now c.put.ensures in
+    let w2 = one_left _ _ c.requires.0 w1 c.put_left_at.ensures in
+    let w3 = one_left _ _ c.requires.1 w2 c.put_left_at-2.ensures in
+    let w4 = one_left _ _ c.requires.2 w3 c.put_left_at-3.ensures in
+    let w5 = one_number _ _ w4 c.put_digits.ensures in
+    let w6 = one_byte _ w5 c.put_byte.ensures in
+    all_put _ c.told-r (is_41 a.opening.service a.opening.code a.opening.number a.address1.now a.address2.now a.country.now) w6
