@@ -12,7 +12,8 @@ use field_words::{
     all_digits, pairs_in, value_in, word, word_of_last_seven, word_of_last_six, word_of_six,
 };
 
-// Six, eight, nine and seventeen bytes are read by words.
+// Six, eight, nine and seventeen bytes are read by words. Merged into its callers, most of which know the width.
+#[inline(always)]
 pub fn number(s: &[u8]) -> Option<u64>
     requires { length s.now ≤ 17 }
     ensures { result ≡ number_of s.now }

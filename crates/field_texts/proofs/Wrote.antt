@@ -1,12 +1,13 @@
 -- Bytes written one behind the other over the start of a lent list.
 -- Assumes nothing.
-use Prim.Native.Nat.{ℕ, ◌+◌, ◌-◌, ◌≤◌}
+use Prim.Native.Nat.{ℕ, suc, ◌+◌, ◌-◌, ◌≤◌, ◌<◌}
 use mathlib.Core.Path.{◌≡◌, refl, sym, ap, ap₂, subst, ◌∙◌}
-use mathlib.Core.List.{List, [], ◌++◌, append-nil, append_assoc}
+use mathlib.Core.List.{List, [], ◌∷◌, ◌++◌, append-nil, append_assoc}
 use native.Mathlib.Omega.{arith}
+use native.Mathlib.Numerals.{add-one}
 use borrow.Rule.Slice.PartMut.{put_mid, Post-is}
-use lib.ListN.{length, take, drop, length-append, length-take, length-drop, drop_of_length-le}
-use lib.Seq.{take_at, drop_at, drop-drop, take_all}
+use lib.ListN.{length, get_or, take, drop, set, length-append, length-take, length-drop, drop_of_length-le}
+use lib.Seq.{set_split, take_at, drop_at, drop-drop, drop-cons, take-suc, set_at, append_snoc, take_all}
 
 -- out is d with a written over its start
 pub record Wrote (a d out : List ℕ) : Type 0 where
@@ -91,6 +92,30 @@ told a w d out n h e l = h.is ∙ ap (λ (x : List ℕ). x ++ drop (length x) d)
 -- what a contract that writes over the start says
 pub at_first : (w d out : List ℕ) (n : ℕ) → n ≡ length w → length w ≤ length d → out ≡ w ++ drop n d → Wrote w d out
 at_first w d out n m l q = record { is = q ∙ ap (λ (k : ℕ). w ++ drop k d) m; room = l }
+
+-- one byte put behind
+pub byte : (a d out : List ℕ) (b at : ℕ) → Wrote a d out → at ≡ length a → length a + 1 ≤ length d → Wrote (a ++ (b ∷ [])) d (set out at b)
+byte a d out b at h e l =
+    let c : drop (length a) d ≡ get_or d (length a) 0 ∷ drop (suc (length a)) d = drop-cons d (length a) 0 (omega arith) in
+    let n : suc (length a) ≡ length (a ++ (b ∷ [])) = sym (length-append a (b ∷ []) ∙ add-one (length a)) in
+    record {
+      is = ap (λ (x : List ℕ). set x at b) (h.is ∙ ap (λ (x : List ℕ). a ++ x) c)
+          ∙ set_at a (get_or d (length a) 0) (drop (suc (length a)) d) b at (sym e)
+          ∙ sym (append_snoc a b (drop (suc (length a)) d))
+          ∙ ap (λ (x : ℕ). (a ++ (b ∷ [])) ++ drop x d) n;
+      room = rw length-append l;
+    }
+
+-- a copy, byte by byte
+pub copied_more : (d s out : List ℕ) (i : ℕ) → i < length s → length s ≤ length d → Wrote (take i s) d out → Wrote (take (i + 1) s) d (set out i (get_or s i 0))
+copied_more d s out i h l w =
+    let n : i ≡ length (take i s) = sym (length-take i s ∙ omega arith) in
+    subst (λ (x : List ℕ). Wrote x d (set out i (get_or s i 0))) (sym (ap (λ (x : ℕ). take x s) (add-one i) ∙ take-suc s i 0 h))
+    (byte (take i s) d out (get_or s i 0) i w n (omega arith))
+
+-- a byte that was set
+pub set_byte : (out : List ℕ) (at b : ℕ) → at + 1 ≤ length out → set out at b ≡ take at out ++ ((b ∷ []) ++ drop (at + 1) out)
+set_byte out at b h = set_split out at b (omega arith) ∙ ap (λ (x : ℕ). take at out ++ (b ∷ drop x out)) (sym (add-one at))
 
 -- all of d is written over
 pub whole : (a d out : List ℕ) → Wrote a d out → length a ≡ length d → out ≡ a

@@ -5,12 +5,14 @@
 ghost use Rattle.std.specs.Prelude.{◌≡◌, ◌++◌, ◌≤◌, length, drop};
 ghost use Rattle.field_texts.specs.Texts.{blanks, to_left, to_right};
 
-// Copies bytes over the start of an output.
+// Copies bytes over the start of an output. A loop, since the library's copy would ask the C library of a caller for one name more.
 pub fn copy_to(out: &mut [u8], bytes: &[u8])
     requires { length bytes.now ≤ length out.old }
     ensures { out.new ≡ bytes.now ++ drop (length bytes.now) out.old }
 {
-    out[..bytes.len()].copy_from_slice(bytes);
+    for i in 0..bytes.len() {
+        out[i] = bytes[i];
+    }
 }
 
 // A text in all of an output, blanks behind it.

@@ -16,6 +16,8 @@ use field_accounts::Account;
 use field_bytes::classes::Class;
 use limits::Record;
 
+// Merged into its callers, whose positions are fixed, so that how they are read is chosen before anything runs.
+#[inline(always)]
 pub fn number_at(r: &[u8], from: usize, to: usize) -> Option<u64>
     requires { Inside from to r.now × (to ≤ from + 16) }
     ensures { result ≡ number_of (part from to r.now) }

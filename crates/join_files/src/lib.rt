@@ -38,8 +38,9 @@ fn weigh(day: ProcessDay, first: &[u8], second: &[u8]) -> Verdict
 {
     let w = day.window().ok_or(Refusal::whole(Reason::NoProcessDay))?;
     let mut ours = [0u64; MOST_ASSIGNMENTS];
-    let mut theirs = [0u64; MOST_ASSIGNMENTS];
     let one = judged(w, 1, first, &mut ours)?;
+    // cleared only where it is wanted
+    let mut theirs = [0u64; MOST_ASSIGNMENTS];
     let other = judged(w, 2, second, &mut theirs)?;
     join_pairs::weigh_both(one, other)
 }

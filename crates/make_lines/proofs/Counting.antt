@@ -1,24 +1,24 @@
 -- The values of a line against what its record type asks for: how many there are, and which are numbers.
 -- Assumes nothing.
-use Prim.Native.Nat.{ℕ, suc, ◌+◌, ◌-◌, ◌≤◌, ◌<◌}
+use Prim.Native.Nat.{ℕ, zero, suc, ◌+◌, ◌-◌, ◌≤◌, ◌<◌}
 use mathlib.Core.Path.{◌≡◌, refl, sym, ap, ap₂, ◌∙◌}
 use mathlib.Core.List.{List, [], ◌∷◌}
 use mathlib.Core.Bool.{Bool, true, false, ◌&&◌}
 use native.Mathlib.Numerals.{add-one}
 use native.Mathlib.Nat.{add-zero, le_of_suc-le-suc}
 use native.Mathlib.Omega.{arith}
-use borrow.Author.Tests.{ne_eqb}
 use lib.Dec.{eqb}
 use lib.ListN.{length, get_or, drop, length-drop, drop_of_length-le}
 use lib.Seq.{drop-cons, drop-drop, get_or-drop}
 use Rattle.std.specs.Prelude.{if◌then◌else◌, Err}
-use Rattle.std.specs.List.{list_all, slice_split}
-use Rattle.fields.specs.Bytes.{same, text}
+use Rattle.std.specs.List.{count_by}
+use Rattle.std.proofs.lemmas.List.Splits.{length-slice_split}
+use Rattle.fields.specs.Bytes.{every, same, text}
 use Rattle.field_bytes.proofs.Every.{same_is}
 use Rattle.layout.specs.Findings.{Finding, fault, or_else, sound}
 use Rattle.layout.specs.declared.Reason.TheVariants.{WrongForm}
 use Rattle.rules.specs.declared.Kind.TheVariants.{Other}
-use Rattle.make_lines.specs.Lines.{values_of}
+use Rattle.make_lines.specs.Lines.{behind, with_first, between, values_of, from_value, is_semicolon}
 use Rattle.make_lines.specs.Draft.{type_given, field_of, all_empty, counted, slot_found, numerals, given_in}
 use Rattle.make_lines.specs.declared.slots.Slot.{Slot}
 use Rattle.make_lines.proofs.Pieces.{between_is}
@@ -58,30 +58,67 @@ enough_values [] vs h = refl
 enough_values (s ∷ ss) [] h = absurd (let z : suc (length ss) ≤ 0 = h in omega arith)
 enough_values (s ∷ ss) (v ∷ vs) h = enough_values ss vs (le_of_suc-le-suc h)
 
-empty_are : (vs : List (List ℕ)) → list_all (λ v. eqb (length v) 0) vs ≡ all_empty vs
+-- ---- empty values are semicolons alone
+first_some : (x : ℕ) (ss : List (List ℕ)) → all_empty (with_first x ss) ≡ false
 unfolding all_empty
-empty_are [] = refl
-empty_are ([] ∷ vs) = empty_are vs
-empty_are ((x ∷ s) ∷ vs) = ap (λ (b : Bool). b && list_all (λ v. eqb (length v) 0) vs) (ne_eqb (suc (length s)) 0 (λ e. omega arith))
+first_some x [] = refl
+first_some x (s ∷ ss) = refl
 
--- the values of a line that are given, by those that `split` gives
-module _ (l : List ℕ) (n : ℕ) (e : n ≡ length (slice_split (λ b. eqb b 59) l)) where
-  how_many : n - 1 ≡ length (given_in l)
-  how_many = ap (λ (k : ℕ). k - 1) (e ∙ ap length (between_is 59 l)) ∙ sym (length-drop 1 (values_of l))
+all_empty_lem : (s : List ℕ) → all_empty (between 59 s) ≡ every is_semicolon s
+unfolding all_empty between every
+all_empty_lem [] = refl
+all_empty_lem (x ∷ s) = go (eqb x 59) (all_empty_lem s)
+  where
+    go : (t : Bool) → all_empty (between 59 s) ≡ every is_semicolon s
+        → all_empty (if t then ([] ∷ between 59 s) else with_first x (between 59 s)) ≡ t && every is_semicolon s
+    go true h = h
+    go false h = first_some x (between 59 s)
+
+none_dropped : (k : ℕ) → ◌≡◌ {A = List (List ℕ)} (drop k []) []
+none_dropped zero = refl
+none_dropped (suc k) = refl
+
+-- the first value goes with its semicolon
+one_dropped : (k : ℕ) (s : List ℕ) → all_empty (drop (suc k) (between 59 s)) ≡ all_empty (drop k (between 59 (behind 59 s)))
+unfolding all_empty between behind
+one_dropped zero [] = refl
+one_dropped (suc k) [] = sym (ap all_empty (none_dropped k))
+one_dropped k (x ∷ s) = go (eqb x 59) (one_dropped k s)
+  where
+    first : (ss : List (List ℕ)) → drop (suc k) (with_first x ss) ≡ drop (suc k) ss
+    first [] = none_dropped k
+    first (v ∷ vs) = refl
+
+    go : (t : Bool) → all_empty (drop (suc k) (between 59 s)) ≡ all_empty (drop k (between 59 (behind 59 s)))
+        → all_empty (drop (suc k) (if t then ([] ∷ between 59 s) else with_first x (between 59 s))) ≡ all_empty (drop k (between 59 (if t then s else behind 59 s)))
+    go true h = refl
+    go false h = ap all_empty (first (between 59 s)) ∙ h
+
+surplus : (k : ℕ) (s : List ℕ) → all_empty (drop k (values_of s)) ≡ every is_semicolon (from_value k s)
+unfolding from_value
+surplus zero s = all_empty_lem s
+surplus (suc k) s = one_dropped k s ∙ surplus k (behind 59 s)
+
+-- the values of a line that are given, by its semicolons
+module _ (l : List ℕ) (n : ℕ) (e : n ≡ count_by (λ b. eqb b 59) l) where
+  how_many : n ≡ length (given_in l)
+  how_many =
+      let m : length (values_of l) ≡ count_by (λ b. eqb b 59) l + 1 = sym (ap length (between_is 59 l)) ∙ length-slice_split (λ b. eqb b 59) l in
+      let d : length (given_in l) ≡ length (values_of l) - 1 = length-drop 1 (values_of l) in
+      omega (arith, e, m, d)
 
   module _ (ss : List Slot) where
-    pub count_missing : (a : Slot) → n - 1 < length ss → a ≡ get_or ss (n - 1) a → Err (fault WrongForm (field_of a)) ≡ counted ss (given_in l)
+    pub count_missing : (a : Slot) → n < length ss → a ≡ get_or ss n a → Err (fault WrongForm (field_of a)) ≡ counted ss (given_in l)
     count_missing a h g =
         ap (λ (x : Slot). Err (fault WrongForm (field_of x))) (g ∙ ap (λ (k : ℕ). get_or ss k a) how_many)
         ∙ sym (too_few ss (given_in l) a (omega (arith, how_many)))
 
-    pub count_end : length ss ≤ n - 1 → (b : Bool) → b ≡ list_all (λ v. eqb (length v) 0) (drop (length ss + 1) (slice_split (λ b. eqb b 59) l))
+    pub count_end : length ss ≤ n → (b : Bool) → b ≡ every is_semicolon (from_value (length ss + 1) l)
         → (if b then sound else Err (fault WrongForm 0)) ≡ counted ss (given_in l)
     count_end h b g =
         let o : length ss + 1 ≡ 1 + length ss = omega arith in
         ap (λ (x : Bool). if x then sound else Err (fault WrongForm 0))
-        (g ∙ ap (λ (x : List (List ℕ)). list_all (λ v. eqb (length v) 0) (drop (length ss + 1) x)) (between_is 59 l)
-        ∙ empty_are (drop (length ss + 1) (values_of l))
+        (g ∙ sym (surplus (length ss + 1) l)
         ∙ ap all_empty (ap (λ (k : ℕ). drop k (values_of l)) o ∙ sym (drop-drop (length ss) 1 (values_of l))))
         ∙ sym (enough_values ss (given_in l) (omega (arith, how_many)))
 

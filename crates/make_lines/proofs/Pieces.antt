@@ -14,12 +14,12 @@ use lib.Dec.{eqb, ltb}
 use lib.ListN.{length, get_or, take, drop, length-drop, drop_of_length-le}
 use lib.Seq.{drop-drop}
 use Rattle.std.specs.Prelude.{if◌then◌else◌, Option, Some, None}
-use Rattle.std.specs.List.{slice_get, slice_split, onto_first, list_all, position_or_len, starts_with}
+use Rattle.std.specs.List.{slice_get, slice_split, onto_first, position_or_len, starts_with}
 use Rattle.std.specs.Option.{MatchOption, option_map, unwrap_or}
 use Rattle.std.proofs.lemmas.Option.{unwrap_or-slice_get}
 use Rattle.field_texts.proofs.Wrote.{tail_part}
 use Rattle.fields.specs.Bytes.{every}
-use Rattle.make_lines.specs.Lines.{behind, with_first, between, without_return, all_without_return, lines_of, from_value, is_semicolon, is_remark, passed_over}
+use Rattle.make_lines.specs.Lines.{behind, with_first, between, without_return, all_without_return, lines_of, values_of, from_value, is_semicolon, is_remark, passed_over}
 
 -- ---- the pieces
 first_is : (x : ℕ) (ss : List (List ℕ)) → with_first x ss ≡ onto_first x ss
@@ -85,14 +85,9 @@ remark_is (x ∷ s) = go (eqb x 35) refl
     go true e = let q = eqb-true x 35 e in simp (eq-eqb 35 x (sym q), e)
     go false e = simp (ne_eqb 35 x (λ q. false≢true (sym e ∙ eq-eqb x 35 (sym q))), e)
 
-pub semicolons_are : (s : List ℕ) → list_all (λ b. eqb b 59) s ≡ every is_semicolon s
-unfolding every
-semicolons_are [] = refl
-semicolons_are (x ∷ s) = ap (λ (t : Bool). eqb x 59 && t) (semicolons_are s)
-
-pub passed_is : (s : List ℕ) → starts_with eqb s (35 ∷ []) || list_all (λ b. eqb b 59) s ≡ passed_over s
+pub passed_is : (s : List ℕ) → starts_with eqb s (35 ∷ []) || every is_semicolon s ≡ passed_over s
 unfolding passed_over
-passed_is s = ap₂ ◌||◌ (remark_is s) (semicolons_are s)
+passed_is s = ap (λ (b : Bool). b || every is_semicolon s) (remark_is s)
 
 -- ---- values
 pub behind_is : (s : List ℕ) → drop (suc (position_or_len (λ b. eqb b 59) s)) s ≡ behind 59 s
@@ -156,6 +151,27 @@ module _ (l r q : List ℕ) (h : drop (length l - length r) l ≡ r) (e : q ≡ 
   value_on i k m =
       let n : i - k ≡ suc (i - (k + 1)) = omega arith in
       ap (from_value (i - (k + 1))) e ∙ sym (ap (λ (j : ℕ). from_value j r) n)
+
+-- the value in place i is the first of what stands from there on
+value_later : (i : ℕ) (s : List ℕ) → get_or (values_of s) (suc i) [] ≡ get_or (values_of (behind 59 s)) i []
+unfolding between behind
+value_later zero [] = refl
+value_later (suc i) [] = refl
+value_later i (x ∷ s) = go (eqb x 59) (value_later i s)
+  where
+    first : (ss : List (List ℕ)) → get_or (with_first x ss) (suc i) [] ≡ get_or ss (suc i) []
+    first [] = refl
+    first (v ∷ vs) = refl
+
+    go : (t : Bool) → get_or (between 59 s) (suc i) [] ≡ get_or (between 59 (behind 59 s)) i []
+        → get_or (if t then ([] ∷ between 59 s) else with_first x (between 59 s)) (suc i) [] ≡ get_or (between 59 (if t then s else behind 59 s)) i []
+    go true h = refl
+    go false h = first (between 59 s) ∙ h
+
+pub value_is : (i : ℕ) (s : List ℕ) → get_or (values_of s) i [] ≡ get_or (values_of (from_value i s)) 0 []
+unfolding from_value
+value_is zero s = refl
+value_is (suc i) s = value_later i s ∙ value_is i (behind 59 s)
 
 pub value_end : (i k : ℕ) (r : List ℕ) → i ≤ k → r ≡ from_value (i - k) r
 unfolding from_value

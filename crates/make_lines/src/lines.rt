@@ -1,8 +1,9 @@
 // The lines of a text, the values of a line, and the number that a value writes.
 
 ghost use Rattle.std.specs.Prelude.{◌≡◌, [], ◌+◌, ◌-◌, ◌*◌, ◌≤◌, length, get_or, drop};
+ghost use Rattle.fields.specs.Bytes.{every};
 ghost use Rattle.fields.specs.Numbers.{value};
-ghost use Rattle.make_lines.specs.Lines.{behind, without_return, lines_of, values_of, from_value, passed_over, is_numeral, cap, capped};
+ghost use Rattle.make_lines.specs.Lines.{behind, without_return, lines_of, values_of, from_value, is_semicolon, passed_over, is_numeral, cap, capped};
 
 use field_bytes::classes::Class;
 
@@ -22,11 +23,22 @@ pub fn line_at(values: &[u8], line: u64) -> &[u8]
     without_return(found.unwrap_or(&[]))
 }
 
-// A remark, or a line with no value in it: nothing but semicolons.
+// Nothing but semicolons. No early exit: the loop becomes vector code.
+pub fn only_semicolons(s: &[u8]) -> bool
+    ensures { result ≡ every is_semicolon s.now }
+{
+    let mut ok = true;
+    for b in s {
+        ok &= *b == b';';
+    }
+    ok
+}
+
+// A remark, or a line with no value in it.
 pub fn is_passed_over(line: &[u8]) -> bool
     ensures { result ≡ passed_over line.now }
 {
-    line.starts_with(b"#") || line.iter().all(|b| *b == b';')
+    line.starts_with(b"#") || only_semicolons(line)
 }
 
 // What stands behind the first value; nothing where there is no second.

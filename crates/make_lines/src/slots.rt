@@ -3,7 +3,7 @@
 ghost use Rattle.std.specs.Prelude.{◌≡◌};
 ghost use Rattle.make_lines.specs.Draft.{type_given, slots_of, field_of, slot_found, counted, numerals, service_given, slots_found, is_given, fault_in, kind_in, given_in};
 
-use crate::lines::{is_numeral, number_at, value_at};
+use crate::lines::{is_numeral, number_at, only_semicolons, value_at, value_start};
 use crate::slots::Slot::{Numeral, Words};
 use layout::Reason::{NotFixed, WrongForm};
 use layout::{Fault, Finding, demand};
@@ -139,19 +139,19 @@ fn slot_found(slot: Slot, value: &[u8]) -> Finding
     }
 }
 
-// Too few values, or too many: those behind the last that is asked for have to be empty.
+// Too few values, or too many: a semicolon stands before each value behind the record type, and those behind the last that is asked for have to be empty.
 fn counted(slots: &[Slot], line: &[u8]) -> Finding
     ensures { result ≡ counted slots.now (given_in line.now) }
 {
-    let given = line.split(|b| *b == b';').count() - 1;
+    let given = line.iter().filter(|b| **b == b';').count();
     if let Some(missing) = slots.get(given) {
         return Err(Fault {
             reason: WrongForm,
             field: missing.field(),
         });
     }
-    let mut more = line.split(|b| *b == b';').skip(slots.len() + 1);
-    demand(more.all(|value| value.is_empty()), WrongForm, 0)
+    let more = value_start(line, slots.len() + 1);
+    demand(only_semicolons(&line[more..]), WrongForm, 0)
 }
 
 // The first number that is none.

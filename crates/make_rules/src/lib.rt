@@ -100,14 +100,13 @@ fn kid(r: &Record, service: u8) -> bool
     requires { service ≡ service_code r.now }
     ensures { result ≡ kid_form (service_code r.now) (type_code r.now) (part 50 74 r.now) }
 {
-    let blank = fields::all_at(Class::Blank, r, 50, 74);
     if service == 1 {
-        return blank | fields::kid_right_at(r, 50, 74);
+        return fields::all_at(Class::Blank, r, 50, 74) || fields::kid_right_at(r, 50, 74);
     }
     if fields::code_at(r, 5) == 12 {
         return fields::kid_at(r, 50);
     }
-    blank
+    fields::all_at(Class::Blank, r, 50, 74)
 }
 
 // Fields 9 and 10 of a 30.

@@ -31,7 +31,7 @@ fn read<'a>(
     rt: &(impl Env + Files + Print),
     argument: usize,
     buffer: &'a mut [u8],
-    most: &'static str,
+    most: &[u8],
 ) -> io::Result<Option<&'a [u8]>> {
     let mut name = [0u8; NAME_ROOM];
     let name = asked::word_at(rt, argument, &mut name);
@@ -48,7 +48,7 @@ fn read_file<'a>(
         rt,
         argument,
         &mut buffer[..room],
-        "a file has at most 200,000 records",
+        b"a file has at most 200,000 records",
     )
 }
 
@@ -106,7 +106,7 @@ fn make(
     room: &mut [u8],
     out: &mut [u8],
 ) -> io::Result<()> {
-    let Some(values) = read(rt, 2, room, "values have at most 24,000,000 bytes")? else {
+    let Some(values) = read(rt, 2, room, b"values have at most 24,000,000 bytes")? else {
         return Ok(());
     };
     match make_lines::make_draft(values, out) {

@@ -44,7 +44,8 @@ fn head(r: &Record, a: Assignment) -> Finding
     demand(listed(fields::code_at(r, 3), code), NotFixed, 3)
 }
 
-// Fields 9 and 10.
+// Fields 9 and 10. Merged into the loop over records, as all of a 30 is.
+#[inline(always)]
 #[tactic(auto, unfolding(layout::specs::Rows::first_fault))]
 fn tail(r: &Record, service: u8) -> Finding
     requires { service ≡ service_code r.now }

@@ -69,7 +69,8 @@ pub fn party(r: &Record, service: u8) -> Finding
     layout::account_found(account, 7)
 }
 
-// Field 9, by service and type.
+// Field 9, by service and type. Merged into the loop over records.
+#[inline(always)]
 #[tactic(auto, unfolding(rules::specs::Payments::kid_form))]
 pub fn kid_sound(r: &Record, service: u8) -> bool
     requires { service ≡ service_code r.now }

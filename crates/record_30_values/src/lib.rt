@@ -83,7 +83,8 @@ fn limit_for(service: Service) -> Amount
     }
 }
 
-// Field 8: its own limit, the assignment's, the file's.
+// Field 8: its own limit, the assignment's, the file's. Merged into the loop over records, as every function that is handed the assignment: one that is called would have all of it laid in memory for each record.
+#[inline(always)]
 #[tactic(auto, unfolding(layout::specs::Rows::first_fault, fields::specs::Numbers::number_of))]
 pub fn amount(r: &Record, a: Assignment, file: Totals) -> Result<Amount, Fault>
     ensures { (ks : List ℕ) → result ≡ brings (first_fault file ks r.now (amount30 a r.now)) (amount_in r.now) }

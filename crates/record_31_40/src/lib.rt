@@ -23,12 +23,15 @@ fn sound31(r: &Record) -> bool
     fields::all_at(Class::Text, r, 16, 79) & fields::few_zeros_at(r, 76, 80)
 }
 
-// Fields 6 to 9 of a record 31, for their first fault. Kept out of the loop over records, which looks for it in few of them.
+// Fields 6 to 9 of a record 31, for their first fault: where all of them hold, none is looked for. Kept out of the loop over records, which looks for it in few of them.
 #[inline(never)]
 #[tactic(auto, unfolding(layout::specs::Rows::first_fault))]
 pub fn texts(r: &Record) -> Finding
     ensures { (f : Totals) (ks : List ℕ) → result ≡ first_fault f ks r.now texts31 }
 {
+    if sound31(r) {
+        return Ok(());
+    }
     demand(fields::all_at(Class::Text, r, 16, 25), WrongForm, 6)?;
     demand(fields::all_at(Class::Text, r, 26, 50), WrongForm, 7)?;
     demand(fields::all_at(Class::Text, r, 51, 75), WrongForm, 8)?;

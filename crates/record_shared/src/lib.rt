@@ -23,7 +23,8 @@ use limits::Record;
 use rules::Assignment;
 use services::Service;
 
-// The number that a field of digits writes; 8 where its bytes are none.
+// The number that a field of digits writes; 8 where its bytes are none. Merged into its callers, as the reader that it calls.
+#[inline(always)]
 pub fn digits_at(r: &[u8], field: u8, from: usize, to: usize) -> Result<u64, Fault>
     requires { Inside from to r.now × (to ≤ from + 16) }
     ensures { result ≡ ok_or (number_of (part from to r.now)) (fault WrongForm field) }
@@ -94,7 +95,8 @@ pub fn repeats(r: &Record, a: &Assignment) -> bool
         & (transaction_number(r) == Ok(a.number))
 }
 
-// Fields 1 to 5 of 31, 40, 41 and 49, which repeat their record 30. Where all of them do, no fault is looked for.
+// Fields 1 to 5 of 31, 40, 41 and 49, which repeat their record 30. Where all of them do, no fault is looked for. Merged into the loop over records: the address of the assignment would keep it in memory.
+#[inline(always)]
 pub fn repeating(r: &Record, a: &Assignment) -> Finding
     ensures { (f : Totals) (ks : List ℕ) → result ≡ first_fault f ks r.now (repeats a.now r.now) }
 {

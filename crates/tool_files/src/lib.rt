@@ -15,8 +15,8 @@ use tool_names::{Mark, NAME_ROOM};
 #[derive(Clone, Copy)]
 enum Trouble {
     System(Error),
-    // an input, of which there may be at most this
-    TooLong(&'static str),
+    // an input of more bytes than it may have
+    TooLong,
 }
 
 impl From<Error> for Trouble {
@@ -27,10 +27,10 @@ impl From<Error> for Trouble {
 
 impl fmt::Display for Trouble {
     fn fmt<W: fmt::Write>(&self, f: &mut fmt::Formatter<W>) -> fmt::Result {
-        match self {
-            Trouble::System(error) => f.write_str(meaning(error.kind())),
-            Trouble::TooLong(most) => write!(f, "it is too long, {most}"),
-        }
+        f.write_str(match self {
+            Trouble::System(error) => meaning(error.kind()),
+            Trouble::TooLong => "it is too long",
+        })
     }
 }
 
@@ -53,25 +53,36 @@ fn meaning(kind: ErrorKind) -> &'static str {
     }
 }
 
-fn tell(rt: &impl Print, name: &[u8], trouble: Trouble) -> io::Result<()> {
+// Which file it is, and what; the line is left open.
+fn tell_of(rt: &impl Print, name: &[u8], trouble: Trouble) -> io::Result<()> {
     rt.write_all(b"trouble with ")?;
     rt.write_all(name)?;
-    println!(rt; ": {trouble}")
+    print!(rt; ": {trouble}")
+}
+
+fn tell(rt: &impl Print, name: &[u8], trouble: Trouble) -> io::Result<()> {
+    tell_of(rt, name, trouble)?;
+    rt.println("")
+}
+
+// Trouble with an input, of which there may be at most this.
+fn tell_input(rt: &impl Print, name: &[u8], trouble: Trouble, most: &[u8]) -> io::Result<()> {
+    tell_of(rt, name, trouble)?;
+    if let Trouble::TooLong = trouble {
+        rt.write_all(b", ")?;
+        rt.write_all(most)?;
+    }
+    rt.println("")
 }
 
 // Reads a file whole into the buffer, and says how many bytes it has. After a full buffer or its end nothing more may come.
-fn read_whole(
-    rt: &impl Files,
-    name: &[u8],
-    buffer: &mut [u8],
-    most: &'static str,
-) -> Result<usize, Trouble>
+fn read_whole(rt: &impl Files, name: &[u8], buffer: &mut [u8]) -> Result<usize, Trouble>
     ensures { IfOk result (λ n. n ≤ length buffer.new) }
 {
     let mut file = program_lines::open(rt, name)?;
     let n = program_lines::read_full(&mut file, buffer)?;
     if file.read(&mut [0])? != 0 {
-        return Err(Trouble::TooLong(most));
+        return Err(Trouble::TooLong);
     }
     Ok(n)
 }
@@ -81,14 +92,14 @@ pub fn read_input<'a>(
     rt: &(impl Files + Print),
     name: &[u8],
     buffer: &'a mut [u8],
-    most: &'static str,
+    most: &[u8],
 ) -> io::Result<Option<&'a [u8]>>
     ensures { IfOk result (λ read. IfSome read (λ input. length input.now ≤ length buffer.old)) }
 {
-    match read_whole(rt, name, buffer, most) {
+    match read_whole(rt, name, buffer) {
         Ok(n) => Ok(Some(&buffer[..n])),
         Err(trouble) => {
-            tell(rt, name, trouble)?;
+            tell_input(rt, name, trouble, most)?;
             Ok(None)
         }
     }

@@ -2,7 +2,7 @@
 
 #![tactic(auto)]
 
-ghost use Rattle.std.specs.Prelude.{◌≤◌, length};
+ghost use Rattle.std.specs.Prelude.{◌≤◌, ◌<◌, length};
 
 use dates::ProcessDay;
 use program_lines::{Answer, JoinAnswer, Made, PartAnswer};
@@ -32,11 +32,15 @@ fn day(line: &[u8]) -> ProcessDay
 }
 
 // A number that every byte of an output goes into.
-fn hash(bytes: &[u8]) -> u32 {
-    bytes.iter().fold(
-        0u32,
-        |h, byte| h.wrapping_mul(31).wrapping_add(*byte as u32),
-    )
+fn hash(bytes: &[u8]) -> u64 {
+    bytes.iter().fold(0u64, |h, byte| with_byte(h, *byte))
+}
+
+// With a byte more: what stands before it times 31 and the byte, modulo 4294967296.
+fn with_byte(h: u64, byte: u8) -> u64
+    ensures { result < 4294967296 }
+{
+    (h % 4294967296 * 31 + u64::from(byte)) % 4294967296
 }
 
 fn no_vector(rt: &impl Print) -> io::Result<()> {
